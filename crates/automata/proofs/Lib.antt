@@ -1,0 +1,4 @@
+pub mod ByByte
+pub mod YesNoLaws
+pub mod ReleaseLaws
+pub mod Following

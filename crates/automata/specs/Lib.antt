@@ -1,0 +1,5 @@
+pub mod Verdicts
+pub mod YesNo
+pub mod Release
+pub mod Meaning
+pub mod Words
