@@ -32,5 +32,5 @@ pub trait Verdict: Drop {
         ensures { λ r. ⌜ r ≡ code (now (self .entry)) ⌝ };
 
     fn read(byte: u8) -> Option<Self>
-        ensures { λ r. ⌜ r ≡ reads byte ⌝ };
+        ensures value { λ r. ⌜ r ≡ reads byte ⌝ };
 }

@@ -14,10 +14,8 @@ pub struct NoLetter {
 
 /// The state where a word ends that is followed from the start state.
 pub fn follow_word<A: Automaton>(rule: &A, word: &[u8]) -> Result<usize, NoLetter>
-    ensures ends {
-        λ r.
-            ⌜ Cases r (λ s. Word (meaning (now (rule .entry)) .k) (now (word .entry)) × (s ≡ follow (meaning (now (rule .entry))) (meaning (now (rule .entry)) .start) (now (word .entry)))) (λ e. First-foreign (meaning (now (rule .entry)) .k) (now (word .entry)) (e .index) (e .letter)) ⌝
-    }
+    ensures ends { λ r.
+        ⌜ Cases r (λ s. Word (meaning (now (rule .entry)) .k) (now (word .entry)) × (s ≡ follow (meaning (now (rule .entry))) (meaning (now (rule .entry)) .start) (now (word .entry)))) (λ e. First-foreign (meaning (now (rule .entry)) .k) (now (word .entry)) (e .index) (e .letter)) ⌝ }
     ensures reached { λ r. ⌜ Cases r (λ s. Reachable (meaning (now (rule .entry))) s × (s < meaning (now (rule .entry)) .n)) (λ _. Unit {0}) ⌝ }
 {
     let _sound = rule.states();
@@ -35,10 +33,8 @@ pub fn follow_word<A: Automaton>(rule: &A, word: &[u8]) -> Result<usize, NoLette
 
 /// The verdict that an automaton gives to a word.
 pub fn word_verdict<A: Automaton>(rule: &A, word: &[u8]) -> Result<A::V, NoLetter>
-    ensures {
-        λ r.
-            ⌜ Cases r (λ v. Word (meaning (now (rule .entry)) .k) (now (word .entry)) × (v ≡ verdict-of (meaning (now (rule .entry))) (now (word .entry)))) (λ e. First-foreign (meaning (now (rule .entry)) .k) (now (word .entry)) (e .index) (e .letter)) ⌝
-    }
+    ensures { λ r.
+        ⌜ Cases r (λ v. Word (meaning (now (rule .entry)) .k) (now (word .entry)) × (v ≡ verdict-of (meaning (now (rule .entry))) (now (word .entry)))) (λ e. First-foreign (meaning (now (rule .entry)) .k) (now (word .entry)) (e .index) (e .letter)) ⌝ }
 {
     let state = follow_word(rule, word)?;
     Ok(rule.verdict(state))

@@ -1,6 +1,7 @@
 ghost use mathlib.Core.Path.{_≡_};
-ghost use Prim.Native.Nat.{_≤_, _<_};
-ghost use Rattle.std.specs.Options.{Cases};
+ghost use Prim.Native.Nat.{_%_, _<_};
+ghost use lib.Dec.{ltb};
+ghost use Rattle.std.specs.Options.{Cases, isSome};
 ghost use Rattle.automata.specs.Release.{same-byte, refused, byte-of, verdict-of-byte};
 use super::Decision;
 use super::Release;
@@ -54,7 +55,11 @@ pub impl Verdict for Release as ReleaseVerdict {
         4 * self.reason + self.decision as u8
     }
 
-    fn read(byte: u8) -> Option<Release> {
+    // A byte is a verdict exactly if its remainder by 4 is not 3.
+    fn read(byte: u8) -> Option<Release>
+        ensures value { λ r. ⌜ r ≡ verdict-of-byte byte ⌝ }
+        ensures exact { λ r. ⌜ isSome r ≡ ltb (byte % 4) 3 ⌝ }
+    {
         let reason = byte / 4;
         let decision = match byte % 4 {
             0 => Decision::Refuse,

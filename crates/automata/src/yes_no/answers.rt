@@ -1,4 +1,6 @@
-ghost use lib.Chars.{codes};
+ghost use mathlib.Core.Path.{_≡_};
+ghost use lib.Dec.{ltb};
+ghost use Rattle.std.specs.Options.{isSome};
 ghost use Rattle.std.specs.declared.option.Option.the-variants.{Some};
 ghost use Rattle.automata.specs.YesNo.{same-byte, says-no, byte-of, verdict-of-byte, spelt};
 use super::YesNo;
@@ -26,7 +28,11 @@ pub impl Verdict for YesNo as YesNoVerdict {
         *self as u8
     }
 
-    fn read(byte: u8) -> Option<YesNo> {
+    // A byte is a verdict exactly if it is 0 or 1.
+    fn read(byte: u8) -> Option<YesNo>
+        ensures value { λ r. ⌜ r ≡ verdict-of-byte byte ⌝ }
+        ensures exact { λ r. ⌜ isSome r ≡ ltb byte 2 ⌝ }
+    {
         match byte {
             0 => Some(YesNo::No),
             1 => Some(YesNo::Yes),

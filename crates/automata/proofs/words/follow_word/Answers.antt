@@ -8,10 +8,11 @@ use Rattle.automata.proofs.words.follow_word.Needs as need
 
 pub loop-index-again : need.loop-index-again
 loop-index-again g c =
-    let m = g .A·Automaton .meaning (c .args .rule .now) in
-    (below-more _ _ (c .loop-index .inv .0) (c .if-letter-letters .left),
-    follow-step m (m .start) (c .args .word .now) (c .loop-index .index) (c .loop-index .state) (c .next-state .result)
-    (c .loop-index-test .taken) (c .loop-index .inv .1) (c .next-state .ensures))
+    let m = g .A·Automaton .meaning (c .args .rule .now) in (
+      below-more _ _ (c .loop-index .inv .0) (c .if-letter-letters .left),
+      follow-step m (m .start) (c .args .word .now) (c .loop-index .index) (c .loop-index .state) (c .next-state .result)
+          (c .loop-index-test .taken) (c .loop-index .inv .1) (c .next-state .ensures),
+    )
 
 pub returns : need.returns
 returns g c =
