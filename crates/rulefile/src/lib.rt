@@ -1,0 +1,5 @@
+// The rule file: the check of its bytes, and the automata that stand on them.
+pub mod check;
+pub mod fault;
+pub mod format;
+mod reading;
