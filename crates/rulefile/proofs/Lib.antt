@@ -1,1 +1,3 @@
 pub mod Unique
+pub mod TableLaws
+pub mod Makings

@@ -2,3 +2,5 @@ pub mod Numbers
 pub mod Bytes
 pub mod Layout
 pub mod Faults
+pub mod Tables
+pub mod Made

@@ -1,5 +1,6 @@
 // The rule file: the check of its bytes, and the automata that stand on them.
 pub mod check;
+pub mod dense;
 pub mod fault;
 pub mod format;
 mod reading;
