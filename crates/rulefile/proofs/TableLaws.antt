@@ -1,5 +1,5 @@
 -- The tables of good files are automata.
-use mathlib.Core.Path.{_≡_, refl, sym, subst}
+use mathlib.Core.Path.{_≡_, sym, subst, ap, _∙_}
 use mathlib.Core.Bool.{cond, _&&_}
 use mathlib.Core.List.{List}
 use Prim.Native.Nat.{ℕ, _+_, _*_, _<_, _≤_}
@@ -7,14 +7,16 @@ use native.Mathlib.Omega.{arith}
 use native.Mathlib.Nat.{mul-comm}
 use lib.Dec.{ltb}
 use Rattle.std.proofs.shelf.Bits.{mul-add-lt}
-use Rattle.std.proofs.shelf.Tests.{cond-both, cond-false, and-left, and-right, le-ltb}
+use Rattle.std.proofs.shelf.Tests.{cond-both, cond-true, cond-false, and-left, and-right, and-from, le-ltb, lt-ltb}
 use Rattle.std.specs.declared.option.Option.{Option}
 use Rattle.std.specs.declared.option.Option.the-variants.{Some}
 use Rattle.automata.specs.Meaning.{Meaning, Sound}
 use Rattle.rulefile.specs.declared.format.Header.{Header}
-use Rattle.rulefile.specs.declared.format.Kind.the-variants.{Dense}
-use Rattle.rulefile.specs.Faults.{All-right}
-use Rattle.rulefile.specs.Tables.{In-ranges, inside, target, with-transitions, dense-table, or-closed}
+use Rattle.rulefile.specs.declared.format.Kind.the-variants.{Dense, Edges}
+use Rattle.rulefile.specs.Faults.{All-right, edge-of}
+use Rattle.rulefile.specs.EdgeWords.{lead, Leads}
+use Rattle.rulefile.specs.Tables.{In-ranges, inside, target, with-transitions, dense-table, edge-table, or-closed}
+use Rattle.rulefile.proofs.Finding.{lead-within, lead-leads}
 
 -- what is meant where there is a header
 pub with-header : {V : Type 0} (closing : V) (o : Option Header) (table : Header → Meaning V) (h : Header) → o ≡ Some h → or-closed closing o table ≡ table h
@@ -41,3 +43,13 @@ module _ {V : Type 0} (reads : ℕ → Option V) (closing : V) (f : List ℕ) (h
 
   pub dense-sound : h .entries ≡ h .states * h .letters → All-right Dense f h → Sound closing (dense-table reads closing f h)
   dense-sound full right = transitions-sound (target f h) (λ s a p q. right (s * h .letters + a) (let place = row-place s (h .states) a (h .letters) p q in omega arith))
+
+  pub edges-sound : All-right Edges f h → Sound closing (edge-table reads closing f h)
+  edges-sound right = transitions-sound (lead (edge-of f h) (h .entries)) (λ s a p q. lead-within f h right s a p)
+
+-- within the ranges, what means a file's edges leads as they do
+pub edges-lead : {V : Type 0} (reads : ℕ → Option V) (closing : V) (f : List ℕ) (h : Header) (m : Meaning V) → m ≡ edge-table reads closing f h → All-right Edges f h → (s a : ℕ) → s < h .states → a < h .letters → Leads f h s a (m .next s a)
+edges-lead reads closing f h m is right s a p q =
+    let here : m .next s a ≡ inside h s a (lead (edge-of f h) (h .entries) s a) = ap (λ (x : Meaning _). x .next s a) is in
+    let led : inside h s a (lead (edge-of f h) (h .entries) s a) ≡ lead (edge-of f h) (h .entries) s a = cond-true _ _ 0 (and-from _ _ (lt-ltb s _ p) (lt-ltb a _ q)) in
+    subst (λ (x : ℕ). Leads f h s a x) (sym (here ∙ led)) (lead-leads f h right s a)

@@ -6,11 +6,12 @@ use Rattle.std.specs.declared.option.Option.{Option}
 use Rattle.std.specs.declared.option.Option.the-variants.{Some}
 use Rattle.automata.specs.Meaning.{Meaning, closed-rule}
 use Rattle.rulefile.specs.declared.dense.DenseTable.{DenseTable}
+use Rattle.rulefile.specs.declared.edges.EdgeList.{EdgeList}
 use Rattle.rulefile.specs.declared.format.Kind.{Kind}
 use Rattle.rulefile.specs.declared.format.Header.{Header}
 use Rattle.rulefile.specs.Layout.{header-of}
 use Rattle.rulefile.specs.Faults.{Good}
-use Rattle.rulefile.specs.Tables.{or-closed, dense-table}
+use Rattle.rulefile.specs.Tables.{or-closed, dense-table, edge-table}
 
 -- m is what is made of a file as one of kind kd: the file's table if it is good, and else the closed rule
 abbrev pub Makes : {V : Type 0} → Kind → (Header → Meaning V) → (ℕ → Option V) → V → List ℕ → Meaning V → Type 0
@@ -20,3 +21,7 @@ Makes kd table reads closing f m =
 -- what a dense table means, by the bytes of its file
 abbrev pub dense-meaning : {V : Type 0} → (ℕ → Option V) → V → DenseTable V → Meaning V
 dense-meaning reads closing t = or-closed closing (t .header) (dense-table reads closing (t .file .now))
+
+-- what an edge list means, by the bytes of its file
+abbrev pub edge-meaning : {V : Type 0} → (ℕ → Option V) → V → EdgeList V → Meaning V
+edge-meaning reads closing t = or-closed closing (t .header) (edge-table reads closing (t .file .now))

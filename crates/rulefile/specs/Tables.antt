@@ -13,7 +13,9 @@ use Rattle.rulefile.specs.declared.format.Kind.{Kind}
 use Rattle.rulefile.specs.declared.format.Kind.the-variants.{Dense}
 use Rattle.rulefile.specs.declared.format.Header.{Header}
 use Rattle.rulefile.specs.Bytes.{two-at}
-use Rattle.rulefile.specs.Layout.{Closes, entry-place, verdict-place}
+use Rattle.rulefile.specs.Layout.{entry-place, verdict-place}
+use Rattle.rulefile.specs.Faults.{edge-of}
+use Rattle.rulefile.specs.EdgeWords.{lead}
 
 -- the numbers of a table are in their ranges
 abbrev pub In-ranges : Header → Type 0
@@ -44,6 +46,9 @@ target f h s a = two-at f (entry-place Dense h (s * h .letters + a))
 
 abbrev pub dense-table : {V : Type 0} → (ℕ → Option V) → V → List ℕ → Header → Meaning V
 dense-table reads closing f h = with-transitions (target f h) reads closing f h
+
+abbrev pub edge-table : {V : Type 0} → (ℕ → Option V) → V → List ℕ → Header → Meaning V
+edge-table reads closing f h = with-transitions (lead (edge-of f h) (h .entries)) reads closing f h
 
 -- the table of a header, and the closed rule where there is none
 abbrev pub or-closed : {V : Type 0} → V → Option Header → (Header → Meaning V) → Meaning V
