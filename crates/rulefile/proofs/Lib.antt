@@ -1,1 +1,6 @@
 pub mod Unique
+pub mod TableLaws
+pub mod Makings
+pub mod Rising
+pub mod Finding
+pub mod Once
