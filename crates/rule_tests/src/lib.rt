@@ -1,5 +1,7 @@
 // Examples run: verdicts, rule files good and refused, the automata made from them, words.
 #[cfg(test)]
+mod answers;
+#[cfg(test)]
 mod drafts;
 #[cfg(test)]
 mod good_files;
@@ -11,3 +13,5 @@ mod refused_trailers;
 mod refused_verdicts;
 #[cfg(test)]
 mod verdicts;
+#[cfg(test)]
+mod words;
