@@ -4,3 +4,4 @@ pub mod Makings
 pub mod Rising
 pub mod Finding
 pub mod Once
+pub mod EitherKind

@@ -3,8 +3,10 @@ use mathlib.Core.Path.{_≡_, refl, sym, subst, ap, _∙_}
 use mathlib.Core.List.{List}
 use Prim.Native.Nat.{ℕ, _+_, _*_}
 use native.Mathlib.Omega.{arith}
+use borrow.Author.Tests.{clash}
 use lib.ListN.{length}
 use Rattle.std.specs.Options.{isSome, valueOr}
+use Rattle.std.specs.Orderings.{Decides}
 use Rattle.std.specs.Results.{okPart}
 use Rattle.std.specs.declared.option.Option.{Option}
 use Rattle.std.specs.declared.option.Option.the-variants.{Some, None}
@@ -47,3 +49,8 @@ module _ {V : Type 0} (reads : ℕ → Option V) (f : List ℕ) (kd : Kind) wher
       let good = subst (λ (k : Kind). Good reads (Some kd) f k) kind (a .0) in
       rw e (λ _. ap table (a .1 ∙ ap (header-of f) kind), λ bad. absurd (bad good))
   makes closing table (Err x) o a e = rw e (λ good. absurd (refused-not-good reads (Some kd) f x kd a good), λ _. refl)
+
+  -- there is a header exactly if the file is good
+  pub there-decides : (r : Result Header FileFault) (o : Option Header) → Answers reads (Some kd) f r → o ≡ okPart r → Decides (isSome o) (Good reads (Some kd) f kd)
+  there-decides (Ok g) o a e = rw e (λ _. subst (λ (k : Kind). Good reads (Some kd) f k) (a .0 .headed .known .wanted) (a .0), λ _. refl)
+  there-decides (Err x) o a e = rw e (λ never. absurd (clash never), λ good. absurd (refused-not-good reads (Some kd) f x kd a good))

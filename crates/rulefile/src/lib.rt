@@ -6,3 +6,4 @@ pub mod fault;
 pub mod format;
 mod halving;
 mod reading;
+pub mod rule_file;

@@ -1,5 +1,7 @@
 ghost use mathlib.Core.Path.{_≡_};
 ghost use Prim.Native.Nat.{ℕ, _<_};
+ghost use Rattle.std.specs.Options.{isSome};
+ghost use Rattle.std.specs.Orderings.{Decides};
 ghost use Rattle.std.specs.declared.option.Option.the-variants.{Some};
 ghost use Rattle.rulefile.specs.declared.format.Kind.the-variants as kinds;
 ghost use Rattle.rulefile.specs.Layout.{header-of};
@@ -18,6 +20,7 @@ impl<'a, V: Verdict> EdgeList<'a, V> {
     /// The file's edges, or the closed rule where the check refuses the file as an edge list.
     pub fn make(file: &'a [u8]) -> EdgeList<'a, V>
         ensures leads { λ r. ⌜ (Good (V·Verdict .reads) (Some kinds.Edges) (now (file .entry)) kinds.Edges → (s a : ℕ) → s < header-of (now (file .entry)) kinds.Edges .states → a < header-of (now (file .entry)) kinds.Edges .letters → Leads (now (file .entry)) (header-of (now (file .entry)) kinds.Edges) s a (edge-meaning (V·Verdict .reads) (V·Verdict .closing) r .next s a)) ⌝ }
+        ensures there { λ r. ⌜ Decides (isSome (r .header)) (Good (V·Verdict .reads) (Some kinds.Edges) (now (file .entry)) kinds.Edges) ⌝ }
         ensures made { λ r. ⌜ Makes kinds.Edges (edge-table (V·Verdict .reads) (V·Verdict .closing) (now (file .entry))) (V·Verdict .reads) (V·Verdict .closing) (now (file .entry)) (edge-meaning (V·Verdict .reads) (V·Verdict .closing) r) ⌝ }
     {
         let header = check::<V>(file, Some(Kind::Edges)).ok();
@@ -27,5 +30,11 @@ impl<'a, V: Verdict> EdgeList<'a, V> {
             firsts: index_edges(file, header),
             says: PhantomData,
         }
+    }
+    // Whether it was made of a good file.
+    pub(crate) fn is_made(&self) -> bool
+        ensures { λ r. ⌜ r ≡ isSome (now (self .entry) .header) ⌝ }
+    {
+        self.header.is_some()
     }
 }

@@ -5,7 +5,7 @@ use Rattle.rulefile.specs.declared.format.Kind.the-variants.{Edges}
 use Rattle.rulefile.specs.Layout.{Closes, header-of}
 use Rattle.rulefile.specs.Faults.{All-right}
 use Rattle.rulefile.specs.Tables.{In-ranges, edge-table}
-use Rattle.rulefile.proofs.Makings.{good-ranged, good-closes, of-answer, makes}
+use Rattle.rulefile.proofs.Makings.{good-ranged, good-closes, of-answer, there-decides, makes}
 use Rattle.rulefile.proofs.TableLaws.{edges-lead}
 use Rattle.rulefile.proofs.edges.EdgeList.make.Needs as need
 
@@ -44,4 +44,4 @@ returns g c =
     let reads = g .V·Verdict .reads in
     let closing = g .V·Verdict .closing in
     let made = makes reads f Edges closing (edge-table reads closing f) (c .check .result) (c .ok-header .result) (c .check .ensures .answer) (c .ok-header .ensures .value) in
-    record { leads = λ good. edges-lead reads closing f (header-of f Edges) _ (made .0 good) (good .entries); made = made }
+    record { leads = λ good. edges-lead reads closing f (header-of f Edges) _ (made .0 good) (good .entries); there = there-decides reads f Edges (c .check .result) (c .ok-header .result) (c .check .ensures .answer) (c .ok-header .ensures .value); made = made }
