@@ -11,6 +11,10 @@ use rulefile::dense::answers::DenseAutomaton;
 use rulefile::edges::EdgeList;
 use rulefile::edges::answers::EdgesAutomaton;
 use rulefile::format::Kind;
+use rulefile::format::KindDebug;
+use rulefile::format::KindPartialEq;
+use rulefile::rule_file::RuleFile;
+use rulefile::rule_file::answers::RuleFileAutomaton;
 use std::test::*;
 
 /// What an automaton is to mean: a start, a number of letters, and for each state its targets and its verdict's byte.
@@ -57,14 +61,20 @@ fn means<A: Automaton>(rule: &A, table: &Table<'_>) -> Result<(), Fail> {
     Ok(())
 }
 
-// The dense file means that table, and is closed for a reader of edge lists.
+// The dense file means that table, also read as a file of either kind, and is closed for a reader of edge lists.
 fn dense_means<V: Verdict>(file: &[u8], table: &Table<'_>) -> Result<(), Fail> {
+    let either = RuleFile::<V>::make(file);
+    check_eq(either.kind(), Kind::Dense)?;
+    means(&either, table)?;
     means(&DenseTable::<V>::make(file), table)?;
     means(&EdgeList::<V>::make(file), &CLOSED)
 }
 
-// The edge list means that table, and is closed for a reader of dense files.
+// The edge list means that table, also read as a file of either kind, and is closed for a reader of dense files.
 fn edges_mean<V: Verdict>(file: &[u8], table: &Table<'_>) -> Result<(), Fail> {
+    let either = RuleFile::<V>::make(file);
+    check_eq(either.kind(), Kind::Edges)?;
+    means(&either, table)?;
     means(&EdgeList::<V>::make(file), table)?;
     means(&DenseTable::<V>::make(file), &CLOSED)
 }
@@ -199,6 +209,9 @@ fn full<A: Automaton>(rule: &A) -> Result<(), Fail> {
 // 64 edges of one letter each in every state, and the same as a dense table.
 #[test]
 fn largest(rt: LibcRuntime) -> Result<(), Fail> {
-    full(&DenseTable::<YesNo>::make(&full_file(rt.alloc(), Kind::Dense, 128, 64)?))?;
-    full(&EdgeList::<YesNo>::make(&full_file(rt.alloc(), Kind::Edges, 128, 64)?))
+    let dense = full_file(rt.alloc(), Kind::Dense, 128, 64)?;
+    let edges = full_file(rt.alloc(), Kind::Edges, 128, 64)?;
+    full(&DenseTable::<YesNo>::make(&dense))?;
+    full(&EdgeList::<YesNo>::make(&edges))?;
+    full(&RuleFile::<YesNo>::make(&edges))
 }
