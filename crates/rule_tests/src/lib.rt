@@ -4,13 +4,9 @@ mod answers;
 #[cfg(test)]
 mod drafts;
 #[cfg(test)]
-mod good_files;
+mod parts;
 #[cfg(test)]
-mod refused_entries;
-#[cfg(test)]
-mod refused_trailers;
-#[cfg(test)]
-mod refused_verdicts;
+mod trailers;
 #[cfg(test)]
 mod verdicts;
 #[cfg(test)]

@@ -1,5 +1,5 @@
 // Words followed through the worked rule, and numbers that are no letters.
-use crate::drafts::*;
+use crate::drafts::DENSE;
 use automata::closed::ClosedAutomaton;
 use automata::closed::ClosedRule;
 use automata::words::NoLetter;
@@ -15,50 +15,54 @@ use rulefile::dense::DenseTable;
 use rulefile::dense::answers::DenseAutomaton;
 use std::test::*;
 
+// Words with the state where they end and their verdict.
+const WORDS: [(&[u8], usize, YesNo); 6] = [
+    (&[], 0, YesNo::Yes),
+    (&[0], 1, YesNo::Yes),
+    (&[0, 0], 0, YesNo::Yes),
+    (&[1], 2, YesNo::No),
+    (&[0, 1, 0], 2, YesNo::No),
+    (&[0, 0, 0, 0, 0, 0, 0], 1, YesNo::Yes),
+];
+
 #[test]
-fn followed(rt: LibcRuntime) -> Result<(), Fail> {
-    let file = DENSE.bytes(rt.alloc(), &[])?;
-    let rule = DenseTable::<YesNo>::make(&file);
-    let words: [(&[u8], usize, YesNo); 6] = [
-        (&[], 0, YesNo::Yes),
-        (&[0], 1, YesNo::Yes),
-        (&[0, 0], 0, YesNo::Yes),
-        (&[1], 2, YesNo::No),
-        (&[0, 1, 0], 2, YesNo::No),
-        (&[0; 300], 0, YesNo::Yes),
-    ];
-    for (word, state, says) in &words {
+fn followed() -> Result<(), Fail> {
+    let rule = DenseTable::<YesNo>::make(&DENSE);
+    for (word, state, says) in &WORDS {
         check_eq(follow_word(&rule, word)?, *state)?;
         check_eq(word_verdict(&rule, word)?, *says)?;
     }
     Ok(())
 }
 
-// The first number that is no letter, and where it stands.
+// Lists with the first number that is no letter, by its index.
+const FOREIGN: [(&[u8], usize, u8); 3] = [
+    (&[2], 0, 2),
+    (&[0, 2, 1], 1, 2),
+    (&[1, 1, 255, 2], 2, 255),
+];
+
 #[test]
-fn no_letters(rt: LibcRuntime) -> Result<(), Fail> {
-    let file = DENSE.bytes(rt.alloc(), &[])?;
-    let rule = DenseTable::<YesNo>::make(&file);
+fn no_letters() -> Result<(), Fail> {
+    let rule = DenseTable::<YesNo>::make(&DENSE);
+    for (word, index, letter) in &FOREIGN {
+        let answer = Err(NoLetter {
+            index: *index,
+            letter: *letter,
+        });
+        check_eq(word_verdict(&rule, word), answer)?;
+    }
+    Ok(())
+}
+
+#[test]
+fn closed_rule() -> Result<(), Fail> {
+    let rule = ClosedRule::<YesNo>::new();
+    check_eq(word_verdict(&rule, &[0, 0])?, YesNo::No)?;
     check_eq(
-        word_verdict(&rule, &[0, 2, 1]),
+        word_verdict(&rule, &[0, 1]),
         Err(NoLetter {
             index: 1,
-            letter: 2,
-        }),
-    )?;
-    check_eq(
-        word_verdict(&rule, &[1, 1, 255, 2]),
-        Err(NoLetter {
-            index: 2,
-            letter: 255,
-        }),
-    )?;
-    let closed = ClosedRule::<YesNo>::new();
-    check_eq(word_verdict(&closed, &[0, 0]), Ok(YesNo::No))?;
-    check_eq(
-        word_verdict(&closed, &[1]),
-        Err(NoLetter {
-            index: 0,
             letter: 1,
         }),
     )
