@@ -3,10 +3,10 @@ use mathlib.Core.List.{List}
 use mathlib.Core.Logic.{∥∥₁-elim}
 use Prim.Native.Nat.{ℕ}
 use native.Mathlib.Bridge.{le-prop}
-use Rattle.rulefile.specs.declared.format.Header.{Header}
-use Rattle.rulefile.specs.declared.format.Kind.the-variants.{Edges}
-use Rattle.rulefile.specs.Faults.{All-right}
-use Rattle.rulefile.specs.EdgeWords.{Indexed}
+use Rattle.ruleformat.specs.declared.format.Header.{Header}
+use Rattle.ruleformat.specs.declared.format.Kind.the-variants.{Edges}
+use Rattle.ruleformat.specs.Faults.{All-right}
+use Rattle.ruleformat.specs.EdgeWords.{Indexed}
 
 pub edges-out : (f : List ℕ) (h : Header) → ∥ All-right Edges f h ∥₁ → All-right Edges f h
 edges-out f h e =

@@ -5,9 +5,9 @@ use mathlib.Core.List.{List}
 use Prim.Native.Nat.{ℕ, zero, suc, _<_, _≤_}
 use lib.Dec.{eqb, leb, ltb}
 use lib.ListN.{length, getD}
-use Rattle.rulefile.specs.declared.format.Edge.{Edge}
-use Rattle.rulefile.specs.declared.format.Header.{Header}
-use Rattle.rulefile.specs.Faults.{edge-of}
+use Rattle.ruleformat.specs.declared.format.Edge.{Edge}
+use Rattle.ruleformat.specs.declared.format.Header.{Header}
+use Rattle.ruleformat.specs.Faults.{edge-of}
 
 -- an edge lists a state and a letter: it is of that state, and the letter is between its first and its last
 pub record Lists (e : Edge) (s a : ℕ) : Type 0 where

@@ -6,9 +6,9 @@ use Prim.Native.Nat.{ℕ, zero, suc, _+_, _-_, _<_, _≤_}
 use native.Mathlib.Omega.{arith}
 use Rattle.std.proofs.shelf.Tests.{cases-order, cases-bool, cases-lt}
 use Rattle.std.proofs.shelf.Ways.{tells}
-use Rattle.rulefile.specs.declared.format.Edge.{Edge}
-use Rattle.rulefile.specs.Faults.{Rises}
-use Rattle.rulefile.specs.EdgeWords.{Lists, lists, lead, comes-before}
+use Rattle.ruleformat.specs.declared.format.Edge.{Edge}
+use Rattle.ruleformat.specs.Faults.{Rises}
+use Rattle.ruleformat.specs.EdgeWords.{Lists, lists, lead, comes-before}
 
 pub lists-true : (e : Edge) (s a : ℕ) → lists e s a ≡ true → Lists e s a
 lists-true e s a h = record { of-state = grind (arith, tells); from-first = grind (arith, tells); to-last = grind (arith, tells) }

@@ -7,12 +7,12 @@ use Prim.Native.Nat.{ℕ, zero, suc, _+_, _-_, _<_, _≤_}
 use native.Mathlib.Omega.{arith}
 use lib.ListN.{getD}
 use Rattle.std.proofs.shelf.Tests.{cases-lt, cases-order, cond-both}
-use Rattle.rulefile.specs.declared.format.Edge.{Edge}
-use Rattle.rulefile.specs.declared.format.Header.{Header}
-use Rattle.rulefile.specs.declared.format.Kind.the-variants.{Edges}
-use Rattle.rulefile.specs.Faults.{All-right, edge-of}
-use Rattle.rulefile.specs.EdgeWords.{Lists, Leads, lists, lead, comes-before, Index-of}
-use Rattle.rulefile.proofs.Rising.{before-unlisted, behind-last, before-state, state-before, rises-far, lower-part, upper-part, once, lead-listed, lead-unlisted}
+use Rattle.ruleformat.specs.declared.format.Edge.{Edge}
+use Rattle.ruleformat.specs.declared.format.Header.{Header}
+use Rattle.ruleformat.specs.declared.format.Kind.the-variants.{Edges}
+use Rattle.ruleformat.specs.Faults.{All-right, edge-of}
+use Rattle.ruleformat.specs.EdgeWords.{Lists, Leads, lists, lead, comes-before, Index-of}
+use Rattle.ruleformat.proofs.Rising.{before-unlisted, behind-last, before-state, state-before, rises-far, lower-part, upper-part, once, lead-listed, lead-unlisted}
 
 module _ (f : List ℕ) (h : Header) (right : All-right Edges f h) where
   abbrev es : ℕ → Edge

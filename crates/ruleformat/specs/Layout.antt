@@ -6,11 +6,11 @@ use Prim.Native.Nat.{ℕ, _+_, _-_, _*_, _/_, _<_, _≤_}
 use lib.ListN.{length}
 use Rattle.std.specs.declared.option.Option.{Option}
 use Rattle.std.specs.declared.option.Option.the-variants.{Some, None}
-use Rattle.rulefile.specs.declared.format.Kind.{Kind}
-use Rattle.rulefile.specs.declared.format.Kind.the-variants.{Dense, Edges}
-use Rattle.rulefile.specs.declared.format.Trailer.{Trailer}
-use Rattle.rulefile.specs.declared.format.Header.{Header}
-use Rattle.rulefile.specs.Bytes.{trailer-place, trailer-of}
+use Rattle.ruleformat.specs.declared.format.Kind.{Kind}
+use Rattle.ruleformat.specs.declared.format.Kind.the-variants.{Dense, Edges}
+use Rattle.ruleformat.specs.declared.format.Trailer.{Trailer}
+use Rattle.ruleformat.specs.declared.format.Header.{Header}
+use Rattle.ruleformat.specs.Bytes.{trailer-place, trailer-of}
 
 -- the byte that says a kind, the length of its entries, and how many there are
 abbrev pub kind-byte : Kind → ℕ

@@ -11,12 +11,12 @@ use Rattle.std.proofs.shelf.Tests.{cond-both, cond-true, cond-false, and-left, 
 use Rattle.std.specs.declared.option.Option.{Option}
 use Rattle.std.specs.declared.option.Option.the-variants.{Some}
 use Rattle.automata.specs.Meaning.{Meaning, Sound}
-use Rattle.rulefile.specs.declared.format.Header.{Header}
-use Rattle.rulefile.specs.declared.format.Kind.the-variants.{Dense, Edges}
-use Rattle.rulefile.specs.Faults.{All-right, edge-of}
-use Rattle.rulefile.specs.EdgeWords.{lead, Leads}
-use Rattle.rulefile.specs.Tables.{In-ranges, inside, target, with-transitions, dense-table, edge-table, or-closed}
-use Rattle.rulefile.proofs.Finding.{lead-within, lead-leads}
+use Rattle.ruleformat.specs.declared.format.Header.{Header}
+use Rattle.ruleformat.specs.declared.format.Kind.the-variants.{Dense, Edges}
+use Rattle.ruleformat.specs.Faults.{All-right, edge-of}
+use Rattle.ruleformat.specs.EdgeWords.{lead, Leads}
+use Rattle.ruleformat.specs.Tables.{In-ranges, inside, target, with-transitions, dense-table, edge-table, or-closed}
+use Rattle.ruleformat.proofs.Finding.{lead-within, lead-leads}
 
 -- what is meant where there is a header
 pub with-header : {V : Type 0} (closing : V) (o : Option Header) (table : Header → Meaning V) (h : Header) → o ≡ Some h → or-closed closing o table ≡ table h

@@ -9,15 +9,15 @@ use Rattle.std.proofs.shelf.Tests.{cases-order}
 use Rattle.std.specs.declared.option.Option.{Option}
 use Rattle.std.specs.declared.result.Result.{Result}
 use Rattle.std.specs.declared.result.Result.the-variants.{Ok, Err}
-use Rattle.rulefile.specs.declared.format.Trailer.{Trailer}
-use Rattle.rulefile.specs.declared.format.Header.{Header}
-use Rattle.rulefile.specs.declared.format.Kind.{Kind}
-use Rattle.rulefile.specs.declared.format.Kind.the-variants.{Dense, Edges}
-use Rattle.rulefile.specs.declared.fault.FileFault.{FileFault}
-use Rattle.rulefile.specs.declared.fault.FileFault.the-variants as fault
-use Rattle.rulefile.specs.Bytes.{trailer-of}
-use Rattle.rulefile.specs.Layout.{Known, Laid, kind-byte, header-of, entry-place, verdict-place}
-use Rattle.rulefile.specs.Faults.{Right, All-right, Reads, First-wrong, Headed, Good, Refused, Answers}
+use Rattle.ruleformat.specs.declared.format.Trailer.{Trailer}
+use Rattle.ruleformat.specs.declared.format.Header.{Header}
+use Rattle.ruleformat.specs.declared.format.Kind.{Kind}
+use Rattle.ruleformat.specs.declared.format.Kind.the-variants.{Dense, Edges}
+use Rattle.ruleformat.specs.declared.fault.FileFault.{FileFault}
+use Rattle.ruleformat.specs.declared.fault.FileFault.the-variants as fault
+use Rattle.ruleformat.specs.Bytes.{trailer-of}
+use Rattle.ruleformat.specs.Layout.{Known, Laid, kind-byte, header-of, entry-place, verdict-place}
+use Rattle.ruleformat.specs.Faults.{Right, All-right, Reads, First-wrong, Headed, Good, Refused, Answers}
 
 byte-same : (a b : Kind) → kind-byte a ≡ kind-byte b → a ≡ b
 byte-same Dense Dense e = refl

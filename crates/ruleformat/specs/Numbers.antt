@@ -1,7 +1,7 @@
 -- The number and the place of a file's fault.
 use Prim.Native.Nat.{ℕ}
-use Rattle.rulefile.specs.declared.fault.FileFault.{FileFault}
-use Rattle.rulefile.specs.declared.fault.FileFault.the-variants.{Short, Kind, Figures, Distance, Entry, Verdict}
+use Rattle.ruleformat.specs.declared.fault.FileFault.{FileFault}
+use Rattle.ruleformat.specs.declared.fault.FileFault.the-variants.{Short, Kind, Figures, Distance, Entry, Verdict}
 
 abbrev pub number-of : FileFault → ℕ
 number-of (Short p) = 1

@@ -13,14 +13,14 @@ use Rattle.std.specs.declared.option.Option.the-variants.{Some, None}
 use Rattle.std.specs.declared.result.Result.{Result}
 use Rattle.std.specs.declared.result.Result.the-variants.{Ok, Err}
 use Rattle.automata.specs.Meaning.{Meaning, closed-rule}
-use Rattle.rulefile.specs.declared.format.Header.{Header}
-use Rattle.rulefile.specs.declared.format.Kind.{Kind}
-use Rattle.rulefile.specs.declared.fault.FileFault.{FileFault}
-use Rattle.rulefile.specs.Layout.{Closes, header-of}
-use Rattle.rulefile.specs.Faults.{Good, Answers}
-use Rattle.rulefile.specs.Tables.{In-ranges, or-closed}
-use Rattle.rulefile.specs.Made.{Makes}
-use Rattle.rulefile.proofs.Unique.{refused-not-good}
+use Rattle.ruleformat.specs.declared.format.Header.{Header}
+use Rattle.ruleformat.specs.declared.format.Kind.{Kind}
+use Rattle.ruleformat.specs.declared.fault.FileFault.{FileFault}
+use Rattle.ruleformat.specs.Layout.{Closes, header-of}
+use Rattle.ruleformat.specs.Faults.{Good, Answers}
+use Rattle.ruleformat.specs.Tables.{In-ranges, or-closed}
+use Rattle.ruleformat.specs.Makes.{Makes, table-of}
+use Rattle.ruleformat.proofs.Unique.{refused-not-good}
 
 -- one value is there
 some-same : {X : Type 0} (x y : X) → Some x ≡ Some y → x ≡ y
@@ -43,12 +43,12 @@ module _ {V : Type 0} (reads : ℕ → Option V) (f : List ℕ) (kd : Kind) wher
   of-answer (Err x) o a e P all h is = absurd (let z : _≡_ {A = ℕ} 0 1 = cc in omega arith)
 
   -- and its table is what is made
-  pub makes : (closing : V) (table : Header → Meaning V) (r : Result Header FileFault) (o : Option Header) → Answers reads (Some kd) f r → o ≡ okPart r → Makes kd table reads closing f (or-closed closing o table)
-  makes closing table (Ok g) o a e =
+  pub makes : (closing : V) (r : Result Header FileFault) (o : Option Header) → Answers reads (Some kd) f r → o ≡ okPart r → Makes kd reads closing f (or-closed closing o (table-of kd reads closing f))
+  makes closing (Ok g) o a e =
       let kind = a .0 .headed .known .wanted in
       let good = subst (λ (k : Kind). Good reads (Some kd) f k) kind (a .0) in
-      rw e (λ _. ap table (a .1 ∙ ap (header-of f) kind), λ bad. absurd (bad good))
-  makes closing table (Err x) o a e = rw e (λ good. absurd (refused-not-good reads (Some kd) f x kd a good), λ _. refl)
+      rw e (λ _. ap (table-of kd reads closing f) (a .1 ∙ ap (header-of f) kind), λ bad. absurd (bad good))
+  makes closing (Err x) o a e = rw e (λ good. absurd (refused-not-good reads (Some kd) f x kd a good), λ _. refl)
 
   -- there is a header exactly if the file is good
   pub there-decides : (r : Result Header FileFault) (o : Option Header) → Answers reads (Some kd) f r → o ≡ okPart r → Decides (isSome o) (Good reads (Some kd) f kd)

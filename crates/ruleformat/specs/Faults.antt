@@ -8,14 +8,14 @@ use Rattle.std.specs.Options.{isSome}
 use Rattle.std.specs.declared.option.Option.{Option}
 use Rattle.std.specs.declared.result.Result.{Result}
 use Rattle.std.specs.declared.result.Result.the-variants.{Ok, Err}
-use Rattle.rulefile.specs.declared.format.Kind.{Kind}
-use Rattle.rulefile.specs.declared.format.Kind.the-variants.{Dense, Edges}
-use Rattle.rulefile.specs.declared.format.Header.{Header}
-use Rattle.rulefile.specs.declared.format.Edge.{Edge}
-use Rattle.rulefile.specs.declared.fault.FileFault.{FileFault}
-use Rattle.rulefile.specs.declared.fault.FileFault.the-variants as fault
-use Rattle.rulefile.specs.Bytes.{two-at, trailer-place, trailer-of, edge-at}
-use Rattle.rulefile.specs.Layout.{Known, Ranged, Laid, header-of, entry-place, verdict-place}
+use Rattle.ruleformat.specs.declared.format.Kind.{Kind}
+use Rattle.ruleformat.specs.declared.format.Kind.the-variants.{Dense, Edges}
+use Rattle.ruleformat.specs.declared.format.Header.{Header}
+use Rattle.ruleformat.specs.declared.format.Edge.{Edge}
+use Rattle.ruleformat.specs.declared.fault.FileFault.{FileFault}
+use Rattle.ruleformat.specs.declared.fault.FileFault.the-variants as fault
+use Rattle.ruleformat.specs.Bytes.{two-at, trailer-place, trailer-of, edge-at}
+use Rattle.ruleformat.specs.Layout.{Known, Ranged, Laid, header-of, entry-place, verdict-place}
 
 -- an edge of a table: its states and letters are the table's, and it has a letter
 abbrev pub In-table : Header → Edge → Type 0

@@ -2,8 +2,8 @@
 use mathlib.Core.List.{List}
 use Prim.Native.Nat.{ℕ, _+_, _-_, _*_}
 use lib.ListN.{length, getD}
-use Rattle.rulefile.specs.declared.format.Trailer.{Trailer}
-use Rattle.rulefile.specs.declared.format.Edge.{Edge}
+use Rattle.ruleformat.specs.declared.format.Trailer.{Trailer}
+use Rattle.ruleformat.specs.declared.format.Edge.{Edge}
 
 abbrev pub two-at : List ℕ → ℕ → ℕ
 two-at f i = getD f i 0 + getD f (i + 1) 0 * 256

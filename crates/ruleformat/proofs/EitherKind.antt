@@ -5,15 +5,13 @@ use Prim.Native.Nat.{ℕ}
 use Rattle.std.specs.declared.option.Option.{Option}
 use Rattle.std.specs.declared.option.Option.the-variants.{Some, None}
 use Rattle.automata.specs.Meaning.{Meaning, closed-rule}
-use Rattle.rulefile.specs.declared.format.Kind.{Kind}
-use Rattle.rulefile.specs.declared.format.Kind.the-variants.{Dense, Edges}
-use Rattle.rulefile.specs.declared.rule_file.RuleFile.{RuleFile}
-use Rattle.rulefile.specs.Bytes.{trailer-of}
-use Rattle.rulefile.specs.Layout.{Known, header-of}
-use Rattle.rulefile.specs.Faults.{Headed, Good}
-use Rattle.rulefile.specs.Tables.{dense-table, edge-table}
-use Rattle.rulefile.specs.Made.{Makes, Makes-either, table-of, dense-meaning, edge-meaning, file-meaning}
-use Rattle.rulefile.proofs.Unique.{known-same}
+use Rattle.ruleformat.specs.declared.format.Kind.{Kind}
+use Rattle.ruleformat.specs.declared.format.Kind.the-variants.{Dense, Edges}
+use Rattle.ruleformat.specs.Bytes.{trailer-of}
+use Rattle.ruleformat.specs.Layout.{Known, header-of}
+use Rattle.ruleformat.specs.Faults.{Headed, Good}
+use Rattle.ruleformat.specs.Makes.{Makes, Makes-either, table-of, by-kind}
+use Rattle.ruleformat.proofs.Unique.{known-same}
 
 module _ {V : Type 0} (reads : ℕ → Option V) (f : List ℕ) where
   -- a good file is good, whether its kind is wanted or none is named
@@ -36,31 +34,20 @@ module _ {V : Type 0} (reads : ℕ → Option V) (f : List ℕ) where
   kind-is Dense Edges not-edges good = absurd (not-edges (wanted Edges good))
   kind-is Edges kd edges good = known-same None Edges kd (trailer-of f) (unwanted Edges edges .headed .known) (good .headed .known)
 
-  module _ (closing : V) (d e : Meaning V) (of-d : Makes Dense (dense-table reads closing f) reads closing f d) (of-e : Makes Edges (edge-table reads closing f) reads closing f e) where
-    abbrev pick : Kind → Meaning V
-    pick Dense = d
-    pick Edges = e
-
-    own : (k : Kind) → Chosen k → Good reads None f k → pick k ≡ table-of k reads closing f (header-of f k)
+  module _ (closing : V) (d e : Meaning V) (of-d : Makes Dense reads closing f d) (of-e : Makes Edges reads closing f e) where
+    own : (k : Kind) → Chosen k → Good reads None f k → by-kind k d e ≡ table-of k reads closing f (header-of f k)
     own Dense chosen good = of-d .0 (wanted Dense good)
     own Edges chosen good = of-e .0 chosen
 
-    shut : (k : Kind) → Chosen k → ((kd : Kind) → Good reads None f kd → ⊥) → pick k ≡ closed-rule closing
+    shut : (k : Kind) → Chosen k → ((kd : Kind) → Good reads None f kd → ⊥) → by-kind k d e ≡ closed-rule closing
     shut Dense chosen none = of-d .1 (λ good. none Dense (unwanted Dense good))
     shut Edges chosen none = absurd (none Edges (unwanted Edges chosen))
 
-    picked : (k : Kind) → Chosen k → Makes-either reads closing f (pick k)
+    -- what answers is what is made of a file of either kind
+    pub picked : (k : Kind) → Chosen k → Makes-either reads closing f (by-kind k d e)
     picked k chosen = (
       λ kd good.
           let same = kind-is k kd chosen good in
-          subst (λ (x : Kind). pick k ≡ table-of x reads closing f (header-of f x)) same (own k chosen (subst (λ (x : Kind). Good reads None f x) (sym same) good)),
+          subst (λ (x : Kind). by-kind k d e ≡ table-of x reads closing f (header-of f x)) same (own k chosen (subst (λ (x : Kind). Good reads None f x) (sym same) good)),
       shut k chosen,
     )
-
--- what a rule file answers by is what is made of a file of either kind
-pub file-made : {V : Type 0} (reads : ℕ → Option V) (closing : V) (f : List ℕ) (r : RuleFile V) → Makes Dense (dense-table reads closing f) reads closing f (dense-meaning reads closing (r .dense)) → Makes Edges (edge-table reads closing f) reads closing f (edge-meaning reads closing (r .edges)) → Chosen reads f (r .kind) → Makes-either reads closing f (file-meaning reads closing r)
-file-made reads closing f r of-d of-e chosen = by-kind (r .kind) chosen
-  where
-    by-kind : (k : Kind) → Chosen reads f k → Makes-either reads closing f (elim k [ Dense ↦ dense-meaning reads closing (r .dense) | Edges ↦ edge-meaning reads closing (r .edges) ])
-    by-kind Dense c = picked reads f closing _ _ of-d of-e Dense c
-    by-kind Edges c = picked reads f closing _ _ of-d of-e Edges c

@@ -4,8 +4,8 @@ ghost use mathlib.Core.List.{_++_};
 ghost use lib.Chars.{codes};
 ghost use Rattle.std.specs.Written.{decimal};
 ghost use Rattle.std.specs.declared.option.Option.the-variants.{Some};
-ghost use Rattle.rulefile.specs.declared.fault.FileFault.the-variants as fault;
-ghost use Rattle.rulefile.specs.Numbers.{number-of, place-of};
+ghost use Rattle.ruleformat.specs.declared.fault.FileFault.the-variants as fault;
+ghost use Rattle.ruleformat.specs.Numbers.{number-of, place-of};
 use std::fmt;
 
 /// The first wrong target or edge, by its byte place.

@@ -9,13 +9,13 @@ use Rattle.std.specs.Options.{valueOr}
 use Rattle.std.specs.declared.option.Option.{Option}
 use Rattle.std.specs.declared.option.Option.the-variants.{Some, None}
 use Rattle.automata.specs.Meaning.{Meaning, closed-rule}
-use Rattle.rulefile.specs.declared.format.Kind.{Kind}
-use Rattle.rulefile.specs.declared.format.Kind.the-variants.{Dense}
-use Rattle.rulefile.specs.declared.format.Header.{Header}
-use Rattle.rulefile.specs.Bytes.{two-at}
-use Rattle.rulefile.specs.Layout.{entry-place, verdict-place}
-use Rattle.rulefile.specs.Faults.{edge-of}
-use Rattle.rulefile.specs.EdgeWords.{lead}
+use Rattle.ruleformat.specs.declared.format.Kind.{Kind}
+use Rattle.ruleformat.specs.declared.format.Kind.the-variants.{Dense}
+use Rattle.ruleformat.specs.declared.format.Header.{Header}
+use Rattle.ruleformat.specs.Bytes.{two-at}
+use Rattle.ruleformat.specs.Layout.{entry-place, verdict-place}
+use Rattle.ruleformat.specs.Faults.{edge-of}
+use Rattle.ruleformat.specs.EdgeWords.{lead}
 
 -- the numbers of a table are in their ranges
 abbrev pub In-ranges : Header → Type 0

@@ -1,0 +1,7 @@
+pub mod Unique
+pub mod Rising
+pub mod Finding
+pub mod Once
+pub mod TableLaws
+pub mod Makings
+pub mod EitherKind
