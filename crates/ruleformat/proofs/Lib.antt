@@ -5,3 +5,4 @@ pub mod Once
 pub mod TableLaws
 pub mod Makings
 pub mod EitherKind
+pub mod InFront
