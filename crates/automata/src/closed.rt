@@ -3,6 +3,11 @@ use crate::automaton::Automaton;
 use crate::verdict::Verdict;
 use std::marker::PhantomData;
 
+// It has one state and one letter, and both are number 0.
+const COUNT: usize = 1;
+
+const ONLY: usize = 0;
+
 /// The closed rule: one state, one letter, and the closing verdict. It is what comes of a rule
 /// that its check refuses.
 #[derive(Drop)]
@@ -22,19 +27,19 @@ pub impl<V: Verdict> Automaton for ClosedRule<V> as ClosedAutomaton {
     ghost meaning = { λ _. closed-rule (V·Verdict .closing) };
 
     fn states(&self) -> usize {
-        1
+        COUNT
     }
 
     fn letters(&self) -> usize {
-        1
+        COUNT
     }
 
     fn start(&self) -> usize {
-        0
+        ONLY
     }
 
     fn next(&self, _state: usize, _letter: usize) -> usize {
-        0
+        ONLY
     }
 
     fn verdict(&self, _state: usize) -> V {

@@ -11,8 +11,8 @@ pub enum Decision {
 /// A decision with its reason, a number from 0 to 63.
 #[derive(Clone, Copy, PartialEq, Eq, Debug)]
 pub struct Release {
-    decision: Decision,
-    reason: u8,
+    pub decision: Decision,
+    pub reason: u8,
     ghost small: { reason ≤ 63 },
 }
 

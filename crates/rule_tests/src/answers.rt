@@ -10,10 +10,10 @@ use rulefile::dense::DenseTable;
 use rulefile::dense::answers::DenseAutomaton;
 use rulefile::edges::EdgeList;
 use rulefile::edges::answers::EdgesAutomaton;
-use rulefile::format::Kind;
-use rulefile::format::KindPartialEq;
 use rulefile::rule_file::RuleFile;
 use rulefile::rule_file::answers::RuleFileAutomaton;
+use ruleformat::format::Kind;
+use ruleformat::format::KindPartialEq;
 use std::alloc::AllocError;
 use std::alloc::Global;
 use std::test::*;
@@ -92,8 +92,8 @@ fn edges_mean<V: Verdict>(file: &[u8], table: &Table<'static>) -> bool {
 
 // Both worked files mean the worked rule behind the notes.
 fn worked_behind(heap: Global, notes: &[u8]) -> Result<bool, AllocError> {
-    let dense = changed(heap, notes, &DENSE, &[])?;
-    let edges = changed(heap, notes, &EDGES, &[])?;
+    let dense = changed(heap, notes, DENSE, &[])?;
+    let edges = changed(heap, notes, EDGES, &[])?;
     Ok(dense_means::<YesNo>(&dense, &WORKED) && edges_mean::<YesNo>(&edges, &WORKED))
 }
 
@@ -102,8 +102,8 @@ fn worked_behind(heap: Global, notes: &[u8]) -> Result<bool, AllocError> {
 fn worked_files(rt: LibcRuntime) -> Result<(), Fail> {
     check(worked_behind(rt.alloc(), &[])?)?;
     check(worked_behind(rt.alloc(), &NOTES)?)?;
-    check(worked_behind(rt.alloc(), &DENSE)?)?;
-    check(worked_behind(rt.alloc(), &EDGES)?)
+    check(worked_behind(rt.alloc(), DENSE)?)?;
+    check(worked_behind(rt.alloc(), EDGES)?)
 }
 
 // Ranges of letters, letters that are not listed, and a state without edges.
@@ -137,14 +137,14 @@ fn releases(rt: LibcRuntime) -> Result<(), Fail> {
     let dense = changed(
         rt.alloc(),
         &[],
-        &DENSE,
+        DENSE,
         &[(12, 6), (13, 254), (14, 253), (27, 2)],
     )?;
     check(dense_means::<Release>(&dense, &RELEASES))?;
     let edges = changed(
         rt.alloc(),
         &[],
-        &EDGES,
+        EDGES,
         &[(24, 6), (25, 254), (26, 253), (39, 2), (27, 3)],
     )?;
     check(edges_mean::<Release>(&edges, &STAYS))
@@ -169,8 +169,8 @@ fn closed(heap: Global, file: &[u8], changes: &[(usize, u8)]) -> Result<bool, Al
 #[test]
 fn refused_is_closed(rt: LibcRuntime) -> Result<(), Fail> {
     check(dense_means::<YesNo>(&[1; 15], &CLOSED))?;
-    check(closed(rt.alloc(), &DENSE, &DENSE_FAULTS)?)?;
-    check(closed(rt.alloc(), &EDGES, &EDGES_FAULTS)?)
+    check(closed(rt.alloc(), DENSE, &DENSE_FAULTS)?)?;
+    check(closed(rt.alloc(), EDGES, &EDGES_FAULTS)?)
 }
 
 // The answers to a file of 128 states and 64 letters.

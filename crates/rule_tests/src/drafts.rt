@@ -1,94 +1,20 @@
 // The worked files, files built from their parts, and the comparison with what the check answers.
 use automata::verdict::Verdict;
 use rulefile::check;
-use rulefile::format::Kind;
-use rulefile::format::KindPartialEq;
+use ruleformat::format::Kind;
+use ruleformat::format::KindPartialEq;
 use std::alloc::AllocError;
 use std::alloc::Global;
 use std::test::*;
 
 /// The worked rule as a dense file: from 0 to 1 and 2, from 1 to 0 and 2, from 2 to 2 and 2; yes, yes, no. The
 /// verdicts begin at 12, the trailer at 15.
-pub const DENSE: [u8; 31] = [
-    1,
-    0,
-    2,
-    0,
-    0,
-    0,
-    2,
-    0,
-    2,
-    0,
-    2,
-    0,
-    1,
-    1,
-    0,
-    15,
-    0,
-    0,
-    0,
-    3,
-    0,
-    0,
-    0,
-    3,
-    0,
-    2,
-    0,
-    0,
-    0,
-    1,
-    1,
-];
+pub const DENSE: &[u8; 31] =
+    b"\x01\x00\x02\x00\x00\x00\x02\x00\x02\x00\x02\x00\x01\x01\x00\x0f\x00\x00\x00\x03\x00\x00\x00\x03\x00\x02\x00\x00\x00\x01\x01";
 
 /// The same rule as an edge list. The verdicts begin at 24, the trailer at 27.
-pub const EDGES: [u8; 43] = [
-    0,
-    0,
-    0,
-    0,
-    1,
-    0,
-    0,
-    0,
-    1,
-    1,
-    2,
-    0,
-    1,
-    0,
-    0,
-    0,
-    0,
-    0,
-    1,
-    0,
-    1,
-    1,
-    2,
-    0,
-    1,
-    1,
-    0,
-    27,
-    0,
-    0,
-    0,
-    3,
-    0,
-    0,
-    0,
-    3,
-    0,
-    2,
-    0,
-    0,
-    0,
-    2,
-    1,
-];
+pub const EDGES: &[u8; 43] =
+    b"\x00\x00\x00\x00\x01\x00\x00\x00\x01\x01\x02\x00\x01\x00\x00\x00\x00\x00\x01\x00\x01\x01\x02\x00\x01\x01\x00\x1b\x00\x00\x00\x03\x00\x00\x00\x03\x00\x02\x00\x00\x00\x02\x01";
 
 /// Bytes to stand in front of a file.
 pub const NOTES: [u8; 5] = [255, 1, 0, 2, 9];

@@ -5,14 +5,14 @@ use automata::release::answers::ReleaseVerdict;
 use automata::yes_no::YesNo;
 use automata::yes_no::answers::YesNoVerdict;
 use rulefile::check;
-use rulefile::fault::FileFaultDisplay;
+use ruleformat::fault::FileFaultDisplay;
 use std::alloc::AllocError;
 use std::alloc::Global;
 use std::test::*;
 
 #[test]
 fn third_byte(rt: LibcRuntime) -> Result<(), Fail> {
-    let file = changed(rt.alloc(), &[], &DENSE, &[(2, 3)])?;
+    let file = changed(rt.alloc(), &[], DENSE, &[(2, 3)])?;
     match check::check::<YesNo>(&file, None) {
         Ok(_) => Err(Fail::new("a wrong file passed")),
         Err(fault) => check_eq(format!(rt.alloc(), "{fault}")?.as_str(), "refused 5 at 2"),
@@ -42,7 +42,7 @@ const DENSE_PARTS: [(Changes, Option<(u8, usize)>); 15] = [
 
 #[test]
 fn dense_parts(rt: LibcRuntime) -> Result<(), Fail> {
-    answered::<YesNo>(rt.alloc(), &DENSE, &DENSE_PARTS)
+    answered::<YesNo>(rt.alloc(), DENSE, &DENSE_PARTS)
 }
 
 const EDGES_PARTS: [(Changes, Option<(u8, usize)>); 13] = [
@@ -67,7 +67,7 @@ const EDGES_PARTS: [(Changes, Option<(u8, usize)>); 13] = [
 
 #[test]
 fn edges_parts(rt: LibcRuntime) -> Result<(), Fail> {
-    answered::<YesNo>(rt.alloc(), &EDGES, &EDGES_PARTS)
+    answered::<YesNo>(rt.alloc(), EDGES, &EDGES_PARTS)
 }
 
 // A byte with remainder 3 by 4 is no release; the others are.
@@ -81,7 +81,7 @@ const RELEASES: [(Changes, Option<(u8, usize)>); 5] = [
 
 #[test]
 fn release_bytes(rt: LibcRuntime) -> Result<(), Fail> {
-    answered::<Release>(rt.alloc(), &DENSE, &RELEASES)
+    answered::<Release>(rt.alloc(), DENSE, &RELEASES)
 }
 
 // Edge lists of 3 states and 4 letters, each with the number of its first wrong edge.

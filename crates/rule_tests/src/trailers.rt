@@ -3,11 +3,11 @@ use crate::drafts::*;
 use automata::yes_no::YesNo;
 use automata::yes_no::answers::YesNoVerdict;
 use rulefile::check;
-use rulefile::fault::FileFaultDebug;
-use rulefile::format::Header;
-use rulefile::format::HeaderDebug;
-use rulefile::format::HeaderPartialEq;
-use rulefile::format::Kind;
+use ruleformat::fault::FileFaultDebug;
+use ruleformat::format::Header;
+use ruleformat::format::HeaderDebug;
+use ruleformat::format::HeaderPartialEq;
+use ruleformat::format::Kind;
 use std::test::*;
 
 #[test]
@@ -21,7 +21,7 @@ fn dense_header() -> Result<(), Fail> {
         transitions: 0,
         verdicts: 12,
     };
-    check_eq(check::check::<YesNo>(&DENSE, Some(Kind::Dense))?, header)
+    check_eq(check::check::<YesNo>(DENSE, Some(Kind::Dense))?, header)
 }
 
 #[test]
@@ -35,7 +35,7 @@ fn edges_header(rt: LibcRuntime) -> Result<(), Fail> {
         transitions: 5,
         verdicts: 29,
     };
-    let file = changed(rt.alloc(), &NOTES, &EDGES, &[])?;
+    let file = changed(rt.alloc(), &NOTES, EDGES, &[])?;
     check_eq(check::check::<YesNo>(&file, Some(Kind::Edges))?, header)
 }
 
@@ -101,8 +101,8 @@ fn lengths() -> Result<(), Fail> {
 
 #[test]
 fn other_kind_wanted() -> Result<(), Fail> {
-    check_eq(fault::<YesNo>(&DENSE, Some(Kind::Edges)), Some((2, 15)))?;
-    check_eq(fault::<YesNo>(&EDGES, Some(Kind::Dense)), Some((2, 27)))
+    check_eq(fault::<YesNo>(DENSE, Some(Kind::Edges)), Some((2, 15)))?;
+    check_eq(fault::<YesNo>(EDGES, Some(Kind::Dense)), Some((2, 27)))
 }
 
 const DENSE_TRAILERS: [(Changes, Option<(u8, usize)>); 27] = [
@@ -143,7 +143,7 @@ const DENSE_TRAILERS: [(Changes, Option<(u8, usize)>); 27] = [
 
 #[test]
 fn dense_trailers(rt: LibcRuntime) -> Result<(), Fail> {
-    answered::<YesNo>(rt.alloc(), &DENSE, &DENSE_TRAILERS)
+    answered::<YesNo>(rt.alloc(), DENSE, &DENSE_TRAILERS)
 }
 
 const EDGES_TRAILERS: [(Changes, Option<(u8, usize)>); 24] = [
@@ -182,7 +182,7 @@ const EDGES_TRAILERS: [(Changes, Option<(u8, usize)>); 24] = [
 
 #[test]
 fn edges_trailers(rt: LibcRuntime) -> Result<(), Fail> {
-    answered::<YesNo>(rt.alloc(), &EDGES, &EDGES_TRAILERS)
+    answered::<YesNo>(rt.alloc(), EDGES, &EDGES_TRAILERS)
 }
 
 // 128 states and 64 letters pass; one more of either does not.

@@ -27,7 +27,7 @@ const WORDS: [(&[u8], usize, YesNo); 6] = [
 
 #[test]
 fn followed() -> Result<(), Fail> {
-    let rule = DenseTable::<YesNo>::make(&DENSE);
+    let rule = DenseTable::<YesNo>::make(DENSE);
     for (word, state, says) in &WORDS {
         check_eq(follow_word(&rule, word)?, *state)?;
         check_eq(word_verdict(&rule, word)?, *says)?;
@@ -44,7 +44,7 @@ const FOREIGN: [(&[u8], usize, u8); 3] = [
 
 #[test]
 fn no_letters() -> Result<(), Fail> {
-    let rule = DenseTable::<YesNo>::make(&DENSE);
+    let rule = DenseTable::<YesNo>::make(DENSE);
     for (word, index, letter) in &FOREIGN {
         let answer = Err(NoLetter {
             index: *index,

@@ -1,7 +1,1 @@
-pub mod Numbers
-pub mod Bytes
-pub mod Layout
-pub mod Faults
-pub mod EdgeWords
-pub mod Tables
-pub mod Made
+pub mod Meanings

@@ -3,12 +3,12 @@ ghost use Prim.Native.Nat.{_*_};
 ghost use denote.Ref.{now};
 ghost use lib.ListN.{length};
 ghost use Rattle.std.specs.declared.option.Option.the-variants.{Some};
-ghost use Rattle.rulefile.specs.declared.format.Header.{Header as TableHeader};
-ghost use Rattle.rulefile.specs.declared.format.Kind.the-variants as kinds;
-ghost use Rattle.rulefile.specs.Layout.{Closes};
-ghost use Rattle.rulefile.specs.Faults.{All-right};
-ghost use Rattle.rulefile.specs.Tables.{In-ranges};
-use crate::format::Header;
+ghost use Rattle.ruleformat.specs.declared.format.Header.{Header as TableHeader};
+ghost use Rattle.ruleformat.specs.declared.format.Kind.the-variants as kinds;
+ghost use Rattle.ruleformat.specs.Layout.{Closes};
+ghost use Rattle.ruleformat.specs.Faults.{All-right};
+ghost use Rattle.ruleformat.specs.Tables.{In-ranges};
+use ruleformat::format::Header;
 use std::marker::PhantomData;
 
 /// The table of a file of the dense kind, with verdicts of `V`; the closed rule where the check

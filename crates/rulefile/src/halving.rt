@@ -4,15 +4,15 @@ ghost use mathlib.Core.Bool.{true, false};
 ghost use Prim.Native.Nat.{ℕ, _<_, _≤_};
 ghost use lib.ListN.{length};
 ghost use Rattle.std.specs.declared.option.Option.the-variants.{Some};
-ghost use Rattle.rulefile.specs.declared.format.Header.{Header as TableHeader};
-ghost use Rattle.rulefile.specs.declared.format.Kind.the-variants as kinds;
-ghost use Rattle.rulefile.specs.Layout.{Closes};
-ghost use Rattle.rulefile.specs.Faults.{All-right, edge-of};
-ghost use Rattle.rulefile.specs.EdgeWords.{comes-before, Indexed, lead};
-ghost use Rattle.rulefile.specs.Tables.{In-ranges};
-use crate::format::Edge;
-use crate::format::Header;
+ghost use Rattle.ruleformat.specs.declared.format.Header.{Header as TableHeader};
+ghost use Rattle.ruleformat.specs.declared.format.Kind.the-variants as kinds;
+ghost use Rattle.ruleformat.specs.Layout.{Closes};
+ghost use Rattle.ruleformat.specs.Faults.{All-right, edge-of};
+ghost use Rattle.ruleformat.specs.EdgeWords.{comes-before, Indexed, lead};
+ghost use Rattle.ruleformat.specs.Tables.{In-ranges};
 use crate::reading::edge;
+use ruleformat::format::Edge;
+use ruleformat::format::Header;
 
 // Whether an edge stands before a letter of a state.
 fn comes_before(e: Edge, state: usize, letter: usize) -> bool

@@ -2,8 +2,6 @@
 pub mod check;
 pub mod dense;
 pub mod edges;
-pub mod fault;
-pub mod format;
 mod halving;
 mod reading;
 pub mod rule_file;

@@ -1,9 +1,12 @@
-// Numbers in a file's bytes, lowest byte first.
+// What stands at a place of a file; numbers have their lowest byte first.
 ghost use mathlib.Core.Path.{_≡_};
 ghost use Prim.Native.Nat.{_+_, _<_};
-ghost use lib.ListN.{length};
-ghost use Rattle.rulefile.specs.Bytes.{two-at, four-at, edge-at};
-use crate::format::Edge;
+ghost use lib.ListN.{length, getD};
+ghost use Rattle.std.specs.Options.{valueOr};
+ghost use Rattle.ruleformat.specs.Bytes.{two-at, four-at, edge-at};
+use automata::verdict::Verdict;
+use ruleformat::format::Edge;
+use ruleformat::format::Header;
 
 // The number in two bytes.
 pub(crate) fn two(file: &[u8], at: usize) -> usize
@@ -32,4 +35,12 @@ pub(crate) fn edge(file: &[u8], at: usize) -> Edge
         last: file[at + 3] as usize,
         target: two(file, at + 4),
     }
+}
+
+// The verdict of a state, by its byte.
+pub(crate) fn verdict_at<V: Verdict>(file: &[u8], h: Header, state: usize) -> V
+    requires { ⌜ h .verdicts + state < length (now file) ⌝ }
+    ensures { λ r. ⌜ r ≡ valueOr (V·Verdict .reads (getD (now (file .entry)) (h .verdicts + state) 0)) (V·Verdict .closing) ⌝ }
+{
+    V::read(file[h.verdicts + state]).unwrap_or(V::closing())
 }

@@ -1,6 +1,6 @@
 use crate::dense::DenseTable;
 use crate::edges::EdgeList;
-use crate::format::Kind;
+use ruleformat::format::Kind;
 
 /// A rule file of either kind, with verdicts of `V`: both are made of the file, the one that is not
 /// of its kind is closed, and the other one answers.

@@ -17,18 +17,6 @@ impl Release {
         }
         Some(Release { decision, reason })
     }
-
-    pub fn decision(&self) -> Decision
-        ensures { λ r. ⌜ r ≡ now (self .entry) .decision ⌝ }
-    {
-        self.decision
-    }
-
-    pub fn reason(&self) -> u8
-        ensures { λ r. ⌜ r ≡ now (self .entry) .reason ⌝ }
-    {
-        self.reason
-    }
 }
 
 pub impl Verdict for Release as ReleaseVerdict {

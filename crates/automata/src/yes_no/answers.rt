@@ -17,11 +17,11 @@ pub impl Verdict for YesNo as YesNoVerdict {
     ghost reads = { verdict-of-byte };
 
     fn same(&self, other: &YesNo) -> bool {
-        *self as u8 == *other as u8
+        self.byte() == other.byte()
     }
 
     fn closing() -> YesNo {
-        YesNo::No
+        Self::No
     }
 
     fn byte(&self) -> u8 {

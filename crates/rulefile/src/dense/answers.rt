@@ -1,6 +1,7 @@
-ghost use Rattle.rulefile.specs.Made.{dense-meaning};
+ghost use Rattle.rulefile.specs.Meanings.{dense-meaning};
 use super::DenseTable;
 use crate::reading::two;
+use crate::reading::verdict_at;
 use automata::automaton::Automaton;
 use automata::verdict::Verdict;
 
@@ -41,10 +42,7 @@ pub impl<'a, W: Verdict> Automaton for DenseTable<'a, W> as DenseAutomaton {
 
     fn verdict(&self, state: usize) -> W {
         match self.header {
-            Some(h) if state < h.states => match W::read(self.file[h.verdicts + state]) {
-                Some(verdict) => verdict,
-                None => W::closing(),
-            },
+            Some(h) if state < h.states => verdict_at(self.file, h, state),
             _ => W::closing(),
         }
     }

@@ -1,10 +1,10 @@
-ghost use Rattle.rulefile.specs.Made.{file-meaning};
+ghost use Rattle.rulefile.specs.Meanings.{file-meaning};
 use super::RuleFile;
 use crate::dense::answers::DenseAutomaton;
 use crate::edges::answers::EdgesAutomaton;
-use crate::format::Kind;
 use automata::automaton::Automaton;
 use automata::verdict::Verdict;
+use ruleformat::format::Kind;
 
 pub impl<'a, W: Verdict> Automaton for RuleFile<'a, W> as RuleFileAutomaton {
     type V = W;

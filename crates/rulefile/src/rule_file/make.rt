@@ -1,13 +1,14 @@
 ghost use mathlib.Core.Path.{_≡_};
 ghost use Rattle.std.specs.declared.option.Option.the-variants.{None};
-ghost use Rattle.rulefile.specs.declared.format.Kind.{Kind as TableKind};
-ghost use Rattle.rulefile.specs.Faults.{Good};
-ghost use Rattle.rulefile.specs.Made.{Makes-either, file-meaning};
+ghost use Rattle.ruleformat.specs.declared.format.Kind.{Kind as TableKind};
+ghost use Rattle.ruleformat.specs.Faults.{Good};
+ghost use Rattle.ruleformat.specs.Makes.{Makes-either};
+ghost use Rattle.rulefile.specs.Meanings.{file-meaning};
 use super::RuleFile;
 use crate::dense::DenseTable;
 use crate::edges::EdgeList;
-use crate::format::Kind;
 use automata::verdict::Verdict;
+use ruleformat::format::Kind;
 
 impl<'a, V: Verdict> RuleFile<'a, V> {
     /// The file's automaton, whichever kind it is of, or the closed rule where the check refuses

@@ -1,4 +1,4 @@
-use Rattle.rulefile.proofs.Unique.{answers-same}
+use Rattle.ruleformat.proofs.Unique.{answers-same}
 use Rattle.rulefile.proofs.check.check.Needs as need
 
 pub returns : need.returns

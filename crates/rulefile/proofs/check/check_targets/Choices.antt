@@ -1,6 +1,6 @@
 use Prim.Native.Nat.{ℕ, _<_}
-use Rattle.rulefile.specs.declared.format.Kind.the-variants as kinds
-use Rattle.rulefile.specs.Faults.{Right}
+use Rattle.ruleformat.specs.declared.format.Kind.the-variants as kinds
+use Rattle.ruleformat.specs.Faults.{Right}
 use Rattle.rulefile.proofs.check.check_targets.Given as given
 
 abbrev pub Inv-loop-i : given.InvT-loop-i

@@ -2,10 +2,10 @@ use mathlib.Core.Path.{_≡_, sym, ap, _∙_}
 use mathlib.Core.Bool.{true, false}
 use Prim.Native.Nat.{ℕ, _+_, _-_, _/_, _<_}
 use native.Mathlib.Omega.{arith}
-use Rattle.rulefile.specs.declared.format.Edge.{Edge}
-use Rattle.rulefile.specs.Faults.{edge-of}
-use Rattle.rulefile.specs.EdgeWords.{comes-before}
-use Rattle.rulefile.proofs.Finding.{lower, upper}
+use Rattle.ruleformat.specs.declared.format.Edge.{Edge}
+use Rattle.ruleformat.specs.Faults.{edge-of}
+use Rattle.ruleformat.specs.EdgeWords.{comes-before}
+use Rattle.ruleformat.proofs.Finding.{lower, upper}
 use Rattle.rulefile.proofs.halving.first_from.Needs as need
 
 pub loop-low-again-then-comes-before : need.loop-low-again-then-comes-before

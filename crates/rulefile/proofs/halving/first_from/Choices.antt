@@ -1,8 +1,8 @@
 use mathlib.Core.Path.{_≡_}
 use mathlib.Core.Bool.{true, false}
 use Prim.Native.Nat.{ℕ, _-_, _<_, _≤_}
-use Rattle.rulefile.specs.Faults.{edge-of}
-use Rattle.rulefile.specs.EdgeWords.{comes-before}
+use Rattle.ruleformat.specs.Faults.{edge-of}
+use Rattle.ruleformat.specs.EdgeWords.{comes-before}
 use Rattle.rulefile.proofs.halving.first_from.Given as given
 
 -- what is in front of `low` stands before the letter, and what is from `high` on does not

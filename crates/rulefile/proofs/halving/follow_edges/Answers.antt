@@ -2,10 +2,10 @@ use mathlib.Core.Path.{_≡_, sym, ap, subst, _∙_}
 use Prim.Native.Nat.{ℕ, _+_, _<_, _≤_}
 use native.Mathlib.Omega.{arith}
 use lib.ListN.{getD}
-use Rattle.rulefile.specs.declared.format.Edge.{Edge}
-use Rattle.rulefile.specs.Faults.{edge-of}
-use Rattle.rulefile.specs.EdgeWords.{Index-of}
-use Rattle.rulefile.proofs.Finding.{forward, past-all, in-gap, found-lists, leads-to, stays-at}
+use Rattle.ruleformat.specs.declared.format.Edge.{Edge}
+use Rattle.ruleformat.specs.Faults.{edge-of}
+use Rattle.ruleformat.specs.EdgeWords.{Index-of}
+use Rattle.ruleformat.proofs.Finding.{forward, past-all, in-gap, found-lists, leads-to, stays-at}
 use Rattle.rulefile.proofs.halving.follow_edges.Needs as need
 
 pub first-from-found-requires : need.first-from-found-requires

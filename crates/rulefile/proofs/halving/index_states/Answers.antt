@@ -5,8 +5,8 @@ use native.Mathlib.Omega.{arith}
 use lib.ListN.{length, getD, set, length-set}
 use lib.Seq.{getD-set-same, getD-set-other}
 use borrow.Author.Count.{below-more}
-use Rattle.rulefile.specs.EdgeWords.{Index-of}
-use Rattle.rulefile.proofs.Finding.{index-is}
+use Rattle.ruleformat.specs.EdgeWords.{Index-of}
+use Rattle.ruleformat.proofs.Finding.{index-is}
 use Rattle.rulefile.proofs.halving.index_states.Needs as need
 
 pub loop-state-again : need.loop-state-again

@@ -1,7 +1,7 @@
 use mathlib.Core.Path.{_≡_}
 use Prim.Native.Nat.{ℕ, _<_}
 use lib.ListN.{length, getD}
-use Rattle.rulefile.specs.EdgeWords.{Index-of}
+use Rattle.ruleformat.specs.EdgeWords.{Index-of}
 use Rattle.rulefile.proofs.halving.index_states.Given as given
 
 abbrev pub Inv-loop-state : given.InvT-loop-state

@@ -1,5 +1,5 @@
 use borrow.Author.Needs.{needs}
-use Rattle.rulefile.specs.Bytes.{edge-at}
+use Rattle.ruleformat.specs.Bytes.{edge-at}
 use Rattle.rulefile.proofs.reading.edge.Needs as need
 
 pub returns : need.returns

@@ -1,12 +1,12 @@
 use mathlib.Core.Path.{_≡_, refl}
 use Prim.Native.Nat.{_*_}
 use lib.ListN.{length}
-use Rattle.rulefile.specs.declared.format.Header.{Header}
-use Rattle.rulefile.specs.declared.format.Kind.the-variants.{Dense}
-use Rattle.rulefile.specs.Layout.{Closes}
-use Rattle.rulefile.specs.Faults.{All-right}
-use Rattle.rulefile.specs.Tables.{In-ranges, dense-table}
-use Rattle.rulefile.proofs.Makings.{good-ranged, good-closes, of-answer, makes}
+use Rattle.ruleformat.specs.declared.format.Header.{Header}
+use Rattle.ruleformat.specs.declared.format.Kind.the-variants.{Dense}
+use Rattle.ruleformat.specs.Layout.{Closes}
+use Rattle.ruleformat.specs.Faults.{All-right}
+use Rattle.ruleformat.specs.Tables.{In-ranges}
+use Rattle.ruleformat.proofs.Makings.{good-ranged, good-closes, of-answer, makes}
 use Rattle.rulefile.proofs.dense.DenseTable.make.Needs as need
 
 pub ghost-result : need.ghost-result
@@ -29,4 +29,4 @@ returns g c =
     let f = c .args .file .now in
     let reads = g .V·Verdict .reads in
     let closing = g .V·Verdict .closing in
-    makes reads f Dense closing (dense-table reads closing f) (c .check .result) (c .ok .result) (c .check .ensures .answer) (c .ok .ensures .value)
+    makes reads f Dense closing (c .check .result) (c .ok .result) (c .check .ensures .answer) (c .ok .ensures .value)

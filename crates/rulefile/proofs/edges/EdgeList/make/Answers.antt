@@ -1,12 +1,12 @@
 use mathlib.Core.Path.{_≡_, refl}
 use lib.ListN.{length}
-use Rattle.rulefile.specs.declared.format.Header.{Header}
-use Rattle.rulefile.specs.declared.format.Kind.the-variants.{Edges}
-use Rattle.rulefile.specs.Layout.{Closes, header-of}
-use Rattle.rulefile.specs.Faults.{All-right}
-use Rattle.rulefile.specs.Tables.{In-ranges, edge-table}
-use Rattle.rulefile.proofs.Makings.{good-ranged, good-closes, of-answer, there-decides, makes}
-use Rattle.rulefile.proofs.TableLaws.{edges-lead}
+use Rattle.ruleformat.specs.declared.format.Header.{Header}
+use Rattle.ruleformat.specs.declared.format.Kind.the-variants.{Edges}
+use Rattle.ruleformat.specs.Layout.{Closes, header-of}
+use Rattle.ruleformat.specs.Faults.{All-right}
+use Rattle.ruleformat.specs.Tables.{In-ranges}
+use Rattle.ruleformat.proofs.Makings.{good-ranged, good-closes, of-answer, there-decides, makes}
+use Rattle.ruleformat.proofs.TableLaws.{edges-lead}
 use Rattle.rulefile.proofs.edges.EdgeList.make.Needs as need
 
 pub index-edges-requires : need.index-edges-requires
@@ -43,5 +43,5 @@ returns g c =
     let f = c .args .file .now in
     let reads = g .V·Verdict .reads in
     let closing = g .V·Verdict .closing in
-    let made = makes reads f Edges closing (edge-table reads closing f) (c .check .result) (c .ok-header .result) (c .check .ensures .answer) (c .ok-header .ensures .value) in
+    let made = makes reads f Edges closing (c .check .result) (c .ok-header .result) (c .check .ensures .answer) (c .ok-header .ensures .value) in
     record { leads = λ good. edges-lead reads closing f (header-of f Edges) _ (made .0 good) (good .entries); there = there-decides reads f Edges (c .check .result) (c .ok-header .result) (c .check .ensures .answer) (c .ok-header .ensures .value); made = made }

@@ -1,7 +1,7 @@
 use mathlib.Core.Path.{_≡_, sym, subst, _∙_}
-use Rattle.rulefile.specs.declared.format.Kind.{Kind}
+use Rattle.ruleformat.specs.declared.format.Kind.{Kind}
 use borrow.Author.Tests.{clash}
-use Rattle.rulefile.proofs.EitherKind.{Chosen, file-made, kind-is}
+use Rattle.ruleformat.proofs.EitherKind.{Chosen, picked, kind-is}
 use Rattle.rulefile.proofs.rule_file.RuleFile.make.Needs as need
 use Rattle.rulefile.proofs.rule_file.RuleFile.make.Needs.{then-is-made, else-is-made}
 
@@ -16,6 +16,6 @@ returns g c =
       | else-is-made w ↦ subst (λ (k : Kind). Chosen reads f k) (sym (w .kind-is)) (λ good. clash (w .if-is-made .ensures tt ∙ there .1 good))
     ] in
     record {
-      made = file-made reads (g .V·Verdict .closing) f (record { kind = c .if-is-made .kind; dense = c .make .result; edges = c .make-edges .result }) (c .make .ensures) (c .make-edges .ensures .made) chosen;
+      made = picked reads f (g .V·Verdict .closing) _ _ (c .make .ensures) (c .make-edges .ensures .made) (c .if-is-made .kind) chosen;
       kind = λ kd good. kind-is reads f (c .if-is-made .kind) kd chosen good;
     }

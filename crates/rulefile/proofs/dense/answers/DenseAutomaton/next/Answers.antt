@@ -1,5 +1,5 @@
 use native.Mathlib.Omega.{arith}
-use Rattle.rulefile.proofs.TableLaws.{row-place}
+use Rattle.ruleformat.proofs.TableLaws.{row-place}
 use Rattle.rulefile.proofs.dense.answers.DenseAutomaton.next.Needs as need
 
 pub two-requires : need.two-requires

@@ -1,6 +1,6 @@
 use mathlib.Core.Path.{_≡_, refl, sym, subst}
 use Rattle.automata.specs.Meaning.{Meaning, Sound}
-use Rattle.rulefile.proofs.TableLaws.{with-header, dense-sound}
+use Rattle.ruleformat.proofs.TableLaws.{with-header, dense-sound}
 use Rattle.rulefile.proofs.dense.answers.DenseAutomaton.states.Needs as need
 
 pub returns-in-Some : need.returns-in-Some

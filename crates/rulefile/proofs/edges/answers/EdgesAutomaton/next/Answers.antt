@@ -1,4 +1,4 @@
-use Rattle.rulefile.proofs.Once.{edges-out, index-out}
+use Rattle.ruleformat.proofs.Once.{edges-out, index-out}
 use Rattle.rulefile.proofs.edges.answers.EdgesAutomaton.next.Needs as need
 
 pub follow-edges-requires : need.follow-edges-requires

@@ -1,6 +1,6 @@
 use mathlib.Core.Path.{_≡_, refl}
-use Rattle.rulefile.proofs.Once.{edges-out}
-use Rattle.rulefile.proofs.TableLaws.{edges-sound}
+use Rattle.ruleformat.proofs.Once.{edges-out}
+use Rattle.ruleformat.proofs.TableLaws.{edges-sound}
 use Rattle.rulefile.proofs.edges.answers.EdgesAutomaton.states.Needs as need
 
 pub returns-in-Some : need.returns-in-Some
