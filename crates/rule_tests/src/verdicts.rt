@@ -50,7 +50,7 @@ fn release() -> Result<(), Fail> {
     check_eq(Release::closing().byte(), 0)?;
     for b in 0..=255u8 {
         match Release::read(b) {
-            Some(v) => check_eq((v.reason(), v.decision() as u8), (b / 4, b % 4))?,
+            Some(v) => check_eq((v.reason, v.decision as u8), (b / 4, b % 4))?,
             None => check_eq(b % 4, 3)?,
         }
     }
@@ -63,6 +63,6 @@ fn release_made() -> Result<(), Fail> {
         return Err(Fail::new("63 is a reason"));
     };
     check_eq(last.byte(), 254)?;
-    check_eq((last.decision(), last.reason()), (Decision::Cut, 63))?;
+    check_eq((last.decision, last.reason), (Decision::Cut, 63))?;
     check(Release::new(Decision::Refuse, 64).is_none())
 }
