@@ -10,9 +10,9 @@ ghost use Rattle.ruleformat.specs.Layout.{Closes};
 ghost use Rattle.ruleformat.specs.Faults.{All-right, edge-of};
 ghost use Rattle.ruleformat.specs.EdgeWords.{comes-before, Indexed, lead};
 ghost use Rattle.ruleformat.specs.Tables.{In-ranges};
-use crate::reading::edge;
 use ruleformat::format::Edge;
 use ruleformat::format::Header;
+use ruleformat::reading::edge;
 
 // Whether an edge stands before a letter of a state.
 fn comes_before(e: Edge, state: usize, letter: usize) -> bool

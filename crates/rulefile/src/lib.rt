@@ -1,7 +1,6 @@
-// The rule file: the check of its bytes, and the automata that stand on them.
-pub mod check;
+// The automata over a rule file: the dense table, the edge list, and a file of either kind.
 pub mod dense;
 pub mod edges;
 mod halving;
-mod reading;
 pub mod rule_file;
+mod verdicts;

@@ -30,12 +30,7 @@ module _ (u f : List ℕ) where
   two p q e = let a = at p q e in let b = at (p + 1) (q + 1) (omega arith) in omega arith
 
   four : (p q : ℕ) → p ≡ length u + q → four-at (u ++ f) p ≡ four-at f q
-  four p q e =
-      let a = at p q e in
-      let b = at (p + 1) (q + 1) (omega arith) in
-      let c = at (p + 2) (q + 2) (omega arith) in
-      let d = at (p + 3) (q + 3) (omega arith) in
-      omega arith
+  four p q e = let a = two p q e in let b = two (p + 2) (q + 2) (omega arith) in omega arith
 
   edge : (p q : ℕ) → p ≡ length u + q → edge-at (u ++ f) p ≡ edge-at f q
   unfolding edge-at

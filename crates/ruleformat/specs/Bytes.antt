@@ -1,4 +1,4 @@
--- Numbers in a file's bytes, lowest byte first.
+-- Numbers in a file's bytes, lowest byte first. A byte behind the file's end reads as 0.
 use mathlib.Core.List.{List}
 use Prim.Native.Nat.{ℕ, _+_, _-_, _*_}
 use lib.ListN.{length, getD}
@@ -9,7 +9,7 @@ abbrev pub two-at : List ℕ → ℕ → ℕ
 two-at f i = getD f i 0 + getD f (i + 1) 0 * 256
 
 abbrev pub four-at : List ℕ → ℕ → ℕ
-four-at f i = getD f i 0 + getD f (i + 1) 0 * 256 + getD f (i + 2) 0 * 65536 + getD f (i + 3) 0 * 16777216
+four-at f i = two-at f i + two-at f (i + 2) * 65536
 
 -- the place of the trailer, the last 16 bytes
 abbrev pub trailer-place : List ℕ → ℕ

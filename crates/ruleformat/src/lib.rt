@@ -2,3 +2,4 @@
 pub mod fault;
 pub mod format;
 pub mod notes;
+pub mod reading;

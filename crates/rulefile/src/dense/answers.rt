@@ -1,9 +1,9 @@
 ghost use Rattle.rulefile.specs.Meanings.{dense-meaning};
 use super::DenseTable;
-use crate::reading::two;
-use crate::reading::verdict_at;
+use crate::verdicts::verdict_at;
 use automata::automaton::Automaton;
 use automata::verdict::Verdict;
+use ruleformat::reading::two;
 
 pub impl<'a, W: Verdict> Automaton for DenseTable<'a, W> as DenseAutomaton {
     type V = W;

@@ -2,8 +2,8 @@ ghost use Rattle.ruleformat.specs.declared.format.Kind.the-variants as kinds;
 ghost use Rattle.ruleformat.specs.Makes.{Makes};
 ghost use Rattle.rulefile.specs.Meanings.{dense-meaning};
 use super::DenseTable;
-use crate::check::check;
 use automata::verdict::Verdict;
+use rulecheck::check::check;
 use ruleformat::format::Kind;
 use std::marker::PhantomData;
 

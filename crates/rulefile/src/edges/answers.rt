@@ -1,7 +1,7 @@
 ghost use Rattle.rulefile.specs.Meanings.{edge-meaning};
 use super::EdgeList;
 use crate::halving::follow_edges;
-use crate::reading::verdict_at;
+use crate::verdicts::verdict_at;
 use automata::automaton::Automaton;
 use automata::verdict::Verdict;
 

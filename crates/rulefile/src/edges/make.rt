@@ -7,9 +7,9 @@ ghost use Rattle.ruleformat.specs.Faults.{Good};
 ghost use Rattle.ruleformat.specs.Makes.{Makes, Follows-edges};
 ghost use Rattle.rulefile.specs.Meanings.{edge-meaning};
 use super::EdgeList;
-use crate::check::check;
 use crate::halving::index_edges;
 use automata::verdict::Verdict;
+use rulecheck::check::check;
 use ruleformat::format::Kind;
 use std::marker::PhantomData;
 

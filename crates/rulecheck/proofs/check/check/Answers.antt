@@ -1,5 +1,5 @@
 use Rattle.ruleformat.proofs.Unique.{answers-same}
-use Rattle.rulefile.proofs.check.check.Needs as need
+use Rattle.rulecheck.proofs.check.check.Needs as need
 
 pub returns : need.returns
 returns g c =

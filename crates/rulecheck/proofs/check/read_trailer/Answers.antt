@@ -1,6 +1,6 @@
 use borrow.Author.Needs.{needs}
 use Rattle.ruleformat.specs.Bytes.{trailer-of}
-use Rattle.rulefile.proofs.check.read_trailer.Needs as need
+use Rattle.rulecheck.proofs.check.read_trailer.Needs as need
 
 pub returns : need.returns
 unfolding trailer-of

@@ -11,9 +11,6 @@ ghost use Rattle.ruleformat.specs.declared.format.Kind.the-variants as kinds;
 ghost use Rattle.ruleformat.specs.Bytes.{trailer-of};
 ghost use Rattle.ruleformat.specs.Layout.{Known, Ranged, Laid, Closes, header-at, entry-place, verdict-place};
 ghost use Rattle.ruleformat.specs.Faults.{In-table, Rises, Right, All-right, Reads, First-wrong, Answers};
-use crate::reading::edge;
-use crate::reading::four;
-use crate::reading::two;
 use automata::verdict::Verdict;
 use ruleformat::fault::EntryFault;
 use ruleformat::fault::FileFault;
@@ -24,6 +21,9 @@ use ruleformat::format::Edge;
 use ruleformat::format::Header;
 use ruleformat::format::Kind;
 use ruleformat::format::Trailer;
+use ruleformat::reading::edge;
+use ruleformat::reading::four;
+use ruleformat::reading::two;
 
 fn read_trailer(file: &[u8]) -> Result<Trailer, FileFault>
     ensures { λ r.

@@ -1,0 +1,2 @@
+// The check of a rule file.
+pub mod check;

@@ -1,7 +1,0 @@
-use borrow.Author.Needs.{needs}
-use Rattle.ruleformat.specs.Bytes.{edge-at}
-use Rattle.rulefile.proofs.reading.edge.Needs as need
-
-pub returns : need.returns
-unfolding edge-at
-returns c = search needs
