@@ -1,6 +1,6 @@
 // The worked files, files built from their parts, and the comparison with what the check answers.
 use automata::verdict::Verdict;
-use rulefile::check;
+use rulecheck::check;
 use ruleformat::format::Kind;
 use ruleformat::format::KindPartialEq;
 use std::alloc::AllocError;

@@ -4,7 +4,7 @@ use automata::release::Release;
 use automata::release::answers::ReleaseVerdict;
 use automata::yes_no::YesNo;
 use automata::yes_no::answers::YesNoVerdict;
-use rulefile::check;
+use rulecheck::check;
 use ruleformat::fault::FileFaultDisplay;
 use std::alloc::AllocError;
 use std::alloc::Global;

@@ -2,7 +2,7 @@
 use crate::drafts::*;
 use automata::yes_no::YesNo;
 use automata::yes_no::answers::YesNoVerdict;
-use rulefile::check;
+use rulecheck::check;
 use ruleformat::fault::FileFaultDebug;
 use ruleformat::format::Header;
 use ruleformat::format::HeaderDebug;
