@@ -1,0 +1,6 @@
+pub mod Tokens
+pub mod Letters
+pub mod Histories
+pub mod Outcomes
+pub mod Tallies
+pub mod Reports
