@@ -4,3 +4,4 @@ pub mod Histories
 pub mod Outcomes
 pub mod Tallies
 pub mod Reports
+pub mod Steps

@@ -12,6 +12,7 @@ use Rattle.histories.specs.declared.outcome.Outcome.the-variants.{Followed, Un
 use Rattle.histories.specs.declared.tally.Tally.{Tally}
 use Rattle.histories.specs.declared.token.TokenFault.{TokenFault}
 use Rattle.histories.specs.declared.token.TokenFault.the-variants.{NotBelow, NoNumber}
+use Rattle.histories.specs.Tallies.{total}
 
 -- A visible ASCII character that is no backslash.
 abbrev pub visible : ℕ → Bool
@@ -38,5 +39,5 @@ report number below (Unreadable t) = decimal number ++ (codes ": " ++ complaint 
 -- The last line: how many histories there were, and what came of them.
 abbrev pub summary : Tally → List ℕ
 summary t =
-    decimal (t .yes + t .no + t .unreadable) ++ (codes " histories: " ++ (decimal (t .yes + t .no) ++ (codes " followed, "
+    decimal (total t) ++ (codes " histories: " ++ (decimal (t .yes + t .no) ++ (codes " followed, "
     ++ (decimal (t .yes) ++ (codes " yes, " ++ (decimal (t .no) ++ (codes " no, " ++ (decimal (t .unreadable) ++ codes " not readable"))))))))

@@ -28,6 +28,10 @@ abbrev pub not-readable : Outcome → ℕ
 not-readable (Followed n v) = 0
 not-readable (Unreadable t) = 1
 
+-- How many lines a tally has.
+abbrev pub total : Tally → ℕ
+total t = t .yes + t .no + t .unreadable
+
 -- How many of the lines.
 abbrev pub times : (Outcome → ℕ) → List Outcome → ℕ
 times f [] = 0
@@ -38,7 +42,7 @@ pub record Tells (t : Tally) (os : List Outcome) : Type 0 where
   pub yes-told : t .yes ≡ times to-yes os
   pub no-told : t .no ≡ times to-no os
   pub unreadable-told : t .unreadable ≡ times not-readable os
-  pub all-told : t .yes + t .no + t .unreadable ≡ length os
+  pub all-told : total t ≡ length os
 
 -- The tally with one more line, counted once and in one place.
 pub record Grown (t : Tally) (o : Outcome) (u : Tally) : Type 0 where
@@ -48,4 +52,4 @@ pub record Grown (t : Tally) (o : Outcome) (u : Tally) : Type 0 where
 
 -- One more line is counted in. A tally of 2^64 - 1 lines is full, and stays as it is.
 abbrev pub Counted : Tally → Outcome → Result (Unit {0}) TallyFull → Tally → Type 0
-Counted t o r u = cond (eqb (t .yes + t .no + t .unreadable) (2 ^ 64 - 1)) ((r ≡ Err (record {})) × (u ≡ t)) ((r ≡ Ok tt) × Grown t o u)
+Counted t o r u = cond (eqb (total t) (2 ^ 64 - 1)) ((r ≡ Err (record {})) × (u ≡ t)) ((r ≡ Ok tt) × Grown t o u)

@@ -2,5 +2,7 @@
 pub mod line;
 pub mod outcome;
 pub mod report;
+pub mod run;
+pub mod step;
 pub mod tally;
 pub mod token;

@@ -3,7 +3,7 @@ ghost use mathlib.Core.List.{List, [], _∷_, _++_};
 ghost use Prim.Native.Nat.{_+_, _-_, _^_, _<_};
 ghost use Rattle.std.specs.Results.{isOk};
 ghost use mathlib.Core.Bool.{true};
-ghost use Rattle.histories.specs.Tallies.{Counted, Grown, Tells};
+ghost use Rattle.histories.specs.Tallies.{total, Counted, Grown, Tells};
 use super::Tally;
 use super::TallyFull;
 use crate::outcome::Outcome;
@@ -30,7 +30,7 @@ impl Tally {
 
     /// How many lines there were.
     pub fn histories(&self) -> u64
-        ensures { λ r. ⌜ r ≡ now (self .entry) .yes + now (self .entry) .no + now (self .entry) .unreadable ⌝ }
+        ensures { λ r. ⌜ r ≡ total (now (self .entry)) ⌝ }
     {
         self.followed() + self.unreadable
     }
@@ -49,7 +49,7 @@ impl Tally {
 
     /// The tally with one more line.
     fn with(self, outcome: &Outcome) -> Tally
-        requires { ⌜ self .yes + self .no + self .unreadable < 2 ^ 64 - 1 ⌝ }
+        requires { ⌜ total self < 2 ^ 64 - 1 ⌝ }
         ensures { λ r. ⌜ Grown self (now (outcome .entry)) r ⌝ }
     {
         let Tally {

@@ -1,0 +1,61 @@
+ghost use mathlib.Core.Path.{_≡_};
+ghost use Rattle.histories.specs.declared.step.StepFault.the-variants.{Memory, Full};
+ghost use Rattle.histories.specs.Steps.{Stepped};
+use crate::outcome::follow_line;
+use crate::report::LineReport;
+use crate::tally::Tally;
+use crate::tally::TallyFull;
+use automata::automaton::Automaton;
+use automata::yes_no::YesNo;
+use std::alloc::AllocError;
+use std::alloc::Global;
+use std::error::Error;
+use std::fmt;
+
+/// Why a line is left out.
+#[derive(Clone, Copy, PartialEq, Eq, Debug)]
+pub enum StepFault {
+    /// There is no memory for its history.
+    Memory,
+    /// There is no room for it in the tally.
+    Full,
+}
+
+pub impl From<AllocError> for StepFault as StepFromAlloc {
+    ghost converts = { λ _ r. r ≡ Memory };
+
+    fn from(_e: AllocError) -> StepFault {
+        StepFault::Memory
+    }
+}
+
+pub impl From<TallyFull> for StepFault as StepFromFull {
+    ghost converts = { λ _ r. r ≡ Full };
+
+    fn from(_e: TallyFull) -> StepFault {
+        StepFault::Full
+    }
+}
+
+pub impl fmt::Display for StepFault as StepFaultDisplay {
+    fn fmt<W: fmt::Write>(&self, f: &mut fmt::Formatter<W>) -> fmt::Result {
+        match self {
+            StepFault::Memory => f.write_str("no memory for a history"),
+            StepFault::Full => f.write_str("too many histories"),
+        }
+    }
+}
+
+pub impl Error for StepFault as StepFaultError {}
+
+/// Follows the history of one more line and counts it in. A line that is left out leaves the
+/// tally as it is.
+pub fn next_report<'a, A: Automaton<V = YesNo>>(heap: Global, rule: &A, line: &'a [u8], tally: &mut Tally) -> Result<LineReport<'a>, StepFault>
+    ensures { λ r. ⌜ Stepped (meaning (now (rule .entry))) (now (line .entry)) (now (tally .entry)) r (now (tally .exit)) ⌝ }
+{
+    let outcome = follow_line(heap, rule, line)?;
+    tally.count(&outcome)?;
+    let number = tally.histories();
+    let below = rule.letters();
+    Ok(LineReport { number, below, outcome })
+}
