@@ -3,3 +3,4 @@ pub mod Values
 pub mod Reading
 pub mod Telling
 pub mod Printing
+pub mod RoundTrip

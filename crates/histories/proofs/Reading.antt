@@ -3,15 +3,22 @@ use mathlib.Core.Path.{_≡_, refl, sym, ap, subst, _∙_}
 use mathlib.Core.List.{List, [], _∷_, _++_}
 use Prim.Native.Nat.{ℕ, _<_}
 use native.Mathlib.Omega.{arith}
+use Rattle.std.specs.Of.Vec.{vec-items}
+use Rattle.std.specs.Vec.{made}
+use Rattle.std.specs.declared.alloc.Global.{Global}
+use Rattle.std.specs.declared.vec.Vec.{Vec}
 use Rattle.std.specs.declared.result.Result.{Result}
 use Rattle.std.specs.declared.result.Result.the-variants.{Ok, Err}
 use lib.ListN.{length, getD}
 use Rattle.std.proofs.shelf.Elements.{all-push, all-getD}
 use Rattle.std.proofs.shelf.Ways.{tells}
 use Rattle.automata.specs.Words.{Word, First-foreign}
+use Rattle.histories.specs.declared.line.LineFault.{LineFault}
+use Rattle.histories.specs.declared.line.LineFault.the-variants.{Token, Memory}
 use Rattle.histories.specs.declared.token.TokenFault.{TokenFault}
 use Rattle.histories.specs.Letters.{letter-of, value}
-use Rattle.histories.specs.Histories.{Reading, word, wrong, with-letter, letters-after}
+use Rattle.histories.specs.Histories.{Reading, word, wrong, with-letter, letters-after, Read}
+use Rattle.histories.specs.Tokens.{tokens}
 
 -- a letter of k is below k
 letter-below : (k : ℕ) (token : List ℕ) (a : ℕ) → letter-of k token ≡ Ok a → a < k
@@ -34,3 +41,8 @@ no-foreign j k w v i a same is below f =
     let small = all-getD (λ (b : ℕ). b < j) w i 0 inside below in
     let here : a ≡ getD w i 0 = f .here ∙ ap (λ (l : List ℕ). getD l i 0) is in
     omega (arith, f .foreign)
+
+pub read-below : (k : ℕ) (line : List ℕ) (r : Result (Vec ℕ Global) LineFault) → Read k line r → made r (λ v. Word k (vec-items v))
+read-below k line (Ok v) e = letters-below k [] (tokens line) (vec-items v) tt e
+read-below k line (Err (Token t)) e = tt
+read-below k line (Err Memory) e = tt

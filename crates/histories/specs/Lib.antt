@@ -5,3 +5,4 @@ pub mod Outcomes
 pub mod Tallies
 pub mod Reports
 pub mod Steps
+pub mod Spelling

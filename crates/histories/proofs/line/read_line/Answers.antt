@@ -1,11 +1,11 @@
-use borrow.Author.Needs.{needs}
-use mathlib.Core.List.{[]}
-use Rattle.histories.specs.Tokens.{tokens}
-use Rattle.histories.proofs.Reading.{letters-below}
+use Rattle.histories.proofs.Reading.{read-below}
+use Rattle.histories.proofs.RoundTrip.{reads-back}
 use Rattle.histories.proofs.line.read_line.Needs as need
+use native.Mathlib.Omega.{arith}
 
 pub returns : need.returns
 returns c = record {
-  read = search needs;
-  letters = letters-below (c .args .letters) [] (tokens (c .args .line .now)) _ tt (search needs);
+  read = c .read-tokens .ensures;
+  below = read-below (c .args .letters) (c .args .line .now) _ (c .read-tokens .ensures);
+  back = reads-back (c .args .letters) (omega arith) (c .args .line .now) _ (c .read-tokens .ensures);
 }

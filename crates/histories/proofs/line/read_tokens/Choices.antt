@@ -3,7 +3,7 @@ use lib.ListN.{length}
 use Rattle.std.specs.Of.Vec.{vec-items}
 use Rattle.histories.specs.Tokens.{tokens}
 use Rattle.histories.specs.Histories.{history-of, letters-after}
-use Rattle.histories.proofs.line.read_line.Given as given
+use Rattle.histories.proofs.line.read_tokens.Given as given
 
 abbrev pub Inv-loop-text : given.InvT-loop-text
 Inv-loop-text l = history-of (l .letters) (l .line) ≡ letters-after (l .letters) (vec-items (l .word)) (tokens (l .rest))
