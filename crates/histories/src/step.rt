@@ -50,12 +50,21 @@ pub impl Error for StepFault as StepFaultError {}
 
 /// Follows the history of one more line and counts it in. A line that is left out leaves the
 /// tally as it is.
-pub fn next_report<'a, A: Automaton<V = YesNo>>(heap: Global, rule: &A, line: &'a [u8], tally: &mut Tally) -> Result<LineReport<'a>, StepFault>
+pub fn next_report<'a, A: Automaton<V = YesNo>>(
+    heap: Global,
+    rule: &A,
+    line: &'a [u8],
+    tally: &mut Tally,
+) -> Result<LineReport<'a>, StepFault>
     ensures { λ r. ⌜ Stepped (meaning (now (rule .entry))) (now (line .entry)) (now (tally .entry)) r (now (tally .exit)) ⌝ }
 {
     let outcome = follow_line(heap, rule, line)?;
     tally.count(&outcome)?;
     let number = tally.histories();
     let below = rule.letters();
-    Ok(LineReport { number, below, outcome })
+    Ok(LineReport {
+        number,
+        below,
+        outcome,
+    })
 }

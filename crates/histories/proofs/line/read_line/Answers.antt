@@ -6,6 +6,6 @@ use native.Mathlib.Omega.{arith}
 pub returns : need.returns
 returns c = record {
   read = c .read-tokens .ensures;
-  below = read-below (c .args .letters) (c .args .line .now) _ (c .read-tokens .ensures);
-  back = reads-back (c .args .letters) (omega arith) (c .args .line .now) _ (c .read-tokens .ensures);
+  below = read-below (c .args .letters) (c .args .line .now) (c .read-tokens .result) (c .read-tokens .ensures);
+  back = reads-back (c .args .letters) (omega arith) (c .args .line .now) (c .read-tokens .result) (c .read-tokens .ensures);
 }
