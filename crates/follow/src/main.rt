@@ -2,6 +2,7 @@
 mod failure;
 mod heading;
 mod program;
+mod session;
 
 use failure::Failure;
 

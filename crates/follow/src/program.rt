@@ -3,6 +3,7 @@ use crate::failure::FailureFromAny;
 use crate::failure::FailureFromIo;
 use crate::heading::Heading;
 use crate::heading::HeadingDisplay;
+use crate::session::follow_input;
 use automata::yes_no::YesNo;
 use automata::yes_no::answers::YesNoVerdict;
 use rulefile::check::check;
@@ -34,6 +35,6 @@ pub(crate) fn run(rt: &LibcRuntime) -> Result<(), Failure> {
     let heading = Heading(header);
     println!(rt, "{heading}")?;
     let rule = RuleFile::<YesNo>::make(file.as_slice());
-    histories::run::run(rt, &rule)?;
+    follow_input(rt, &rule)?;
     Ok(())
 }

@@ -22,49 +22,36 @@ use Rattle.std.proofs.shelf.Ways.{tells}
 use Rattle.automata.specs.Words.{Word}
 use Rattle.histories.specs.declared.line.LineFault.{LineFault}
 use Rattle.histories.specs.declared.line.LineFault.the-variants.{Token, Memory}
-use Rattle.histories.specs.Tokens.{blank, closed, tokens, tokens-after}
+use Rattle.histories.specs.Tokens.{blank, tokens}
 use Rattle.histories.specs.Letters.{value-after, value, letter-of}
 use Rattle.histories.specs.Histories.{Reading, word, wrong, with-letter, letters-after, history-of, Read}
 use Rattle.histories.specs.Spelling.{spelled, Word-read, Reads-back}
-use Rattle.histories.proofs.Scanning.{closed-some}
+use Rattle.histories.specs.Pieces.{Solid}
+use Rattle.histories.proofs.Cutting.{Unbroken, first-token, last-token}
 use Rattle.histories.proofs.Values.{below}
 
 own : Numerals (λ ds. allDigits ds ≡ true) value
 own = numerals-by-fold _ tells-allDigits value-after (record { empty = λ _. refl; more = λ _ _ _ _. refl })
 
--- a run of bytes that are no blanks
-abbrev Solid : List ℕ → Type 0
-Solid t = All (λ b. blank b ≡ false) t
-
 digit-solid : (c : ℕ) → asciiDigit c ≡ true → blank c ≡ false
 digit-solid c d = grind (arith, tells)
 
-digits-solid : (ds : List ℕ) → allDigits ds ≡ true → Solid ds
+digits-solid : (ds : List ℕ) → allDigits ds ≡ true → Unbroken ds
 digits-solid [] d = tt
 digits-solid (c ∷ ds) d = let p = and-parts (asciiDigit c) (allDigits ds) d in (digit-solid c (p .0), digits-solid ds (p .1))
-
-run-on : (run t rest : List ℕ) → Solid t → tokens-after run (t ++ rest) ≡ tokens-after (run ++ t) rest
-run-on run [] rest s = ap (λ (l : List ℕ). tokens-after l rest) (sym (append-nil run))
-run-on run (b ∷ t) rest s = rw (s .0) (run-on (run ++ b ∷ []) t rest (s .1) ∙ ap (λ (l : List ℕ). tokens-after l rest) (append-assoc run (b ∷ []) t))
-
-first-token : (t rest : List ℕ) → Solid t → 0 < length t → tokens (t ++ (32 ∷ rest)) ≡ t ∷ tokens rest
-first-token t rest s some = run-on [] t (32 ∷ rest) s ∙ closed-some t (tokens rest) some
-
-last-token : (t : List ℕ) → Solid t → 0 < length t → tokens t ≡ t ∷ []
-last-token t s some = ap tokens (sym (append-nil t)) ∙ run-on [] t [] s ∙ closed-some t [] some
 
 module _ (k : ℕ) (fits : k < 2 ^ 64) where
   letter-digits : (a : ℕ) → a < k → allDigits (decimal a) ≡ true
   letter-digits a h = digits-decimal own a (omega arith)
 
   letter-solid : (a : ℕ) → a < k → Solid (decimal a)
-  letter-solid a h = digits-solid (decimal a) (letter-digits a h)
+  letter-solid a h = (decimal-some a (omega arith), digits-solid (decimal a) (letter-digits a h))
 
   tokens-spelled : (w : List ℕ) → Word k w → tokens (spelled w) ≡ map decimal w
   tokens-spelled [] l = refl
-  tokens-spelled (a ∷ []) l = last-token (decimal a) (letter-solid a (l .0)) (decimal-some a (omega (arith, l .0)))
+  tokens-spelled (a ∷ []) l = ap tokens (sym (append-nil (decimal a))) ∙ last-token (decimal a) (letter-solid a (l .0))
   tokens-spelled (a ∷ b ∷ w) l =
-      first-token (decimal a) (spelled (b ∷ w)) (letter-solid a (l .0)) (decimal-some a (omega (arith, l .0))) ∙ ap (λ (ts : List (List ℕ)). decimal a ∷ ts) (tokens-spelled (b ∷ w) (l .1))
+      first-token (decimal a) 32 (spelled (b ∷ w)) (letter-solid a (l .0)) refl ∙ ap (λ (ts : List (List ℕ)). decimal a ∷ ts) (tokens-spelled (b ∷ w) (l .1))
 
   letter-back : (a : ℕ) → a < k → letter-of k (decimal a) ≡ Ok a
   letter-back a h =

@@ -1,4 +1,5 @@
 pub mod Tokens
+pub mod Pieces
 pub mod Letters
 pub mod Histories
 pub mod Outcomes

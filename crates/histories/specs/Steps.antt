@@ -2,6 +2,7 @@
 use mathlib.Core.Path.{_≡_}
 use mathlib.Core.List.{List}
 use Prim.Native.Nat.{ℕ, _-_, _^_}
+use lib.Chars.{codes}
 use Rattle.std.specs.declared.result.Result.{Result}
 use Rattle.std.specs.declared.result.Result.the-variants.{Ok, Err}
 use Rattle.automata.specs.Meaning.{Meaning}
@@ -20,3 +21,8 @@ abbrev pub Stepped : Meaning YesNo → List ℕ → Tally → Result LineReport 
 Stepped m line t (Ok l) u = Came m (history-of (m .k) line) (l .outcome) × Grown t (l .outcome) u × (l .number ≡ total u) × (l .below ≡ m .k)
 Stepped m line t (Err Memory) u = u ≡ t
 Stepped m line t (Err Full) u = (u ≡ t) × (total t ≡ 2 ^ 64 - 1)
+
+-- how it is printed that a line is left out
+abbrev pub excuse : StepFault → List ℕ
+excuse Memory = codes "no memory for a history"
+excuse Full = codes "too many histories"

@@ -2,7 +2,6 @@
 pub mod line;
 pub mod outcome;
 pub mod report;
-pub mod run;
 pub mod step;
 pub mod tally;
 pub mod token;

@@ -2,6 +2,7 @@ ghost use Rattle.std.specs.Of.Vec.{vec-items};
 ghost use Rattle.std.specs.Vec.{made};
 ghost use Rattle.automata.specs.Words.{Word};
 ghost use Rattle.histories.specs.Histories.{Read};
+ghost use Rattle.histories.specs.Pieces.{Cut-right};
 ghost use Rattle.histories.specs.Spelling.{Reads-back};
 use crate::token::TokenFault;
 use crate::token::next_token;
@@ -26,6 +27,7 @@ pub enum LineFault<'a> {
 pub fn read_line(heap: Global, line: &[u8], letters: u8) -> Result<Vec<u8>, LineFault<'_>>
     ensures read { λ r. ⌜ Read letters (now (line .entry)) r ⌝ }
     ensures below { λ r. ⌜ made r (λ v. Word letters (vec-items v)) ⌝ }
+    ensures cut { λ _. ⌜ Cut-right (now (line .entry)) ⌝ }
     ensures back { λ r. ⌜ Reads-back letters (now (line .entry)) r ⌝ }
 {
     read_tokens(heap, line, letters)

@@ -1,6 +1,11 @@
 ghost use mathlib.Core.Path.{_≡_};
+ghost use mathlib.Core.List.{List, [], _∷_, _++_};
+ghost use Rattle.std.specs.Vec.{made};
+ghost use Rattle.std.specs.declared.option.Option.the-variants.{Some};
 ghost use Rattle.histories.specs.declared.step.StepFault.the-variants.{Memory, Full};
-ghost use Rattle.histories.specs.Steps.{Stepped};
+ghost use Rattle.histories.specs.Steps.{Stepped, excuse};
+ghost use Rattle.histories.specs.Tallies.{Tells};
+use crate::outcome::Outcome;
 use crate::outcome::follow_line;
 use crate::report::LineReport;
 use crate::tally::Tally;
@@ -38,6 +43,8 @@ pub impl From<TallyFull> for StepFault as StepFromFull {
 }
 
 pub impl fmt::Display for StepFault as StepFaultDisplay {
+    ghost shown = { λ e. Some (excuse e) };
+
     fn fmt<W: fmt::Write>(&self, f: &mut fmt::Formatter<W>) -> fmt::Result {
         match self {
             StepFault::Memory => f.write_str("no memory for a history"),
@@ -56,7 +63,8 @@ pub fn next_report<'a, A: Automaton<V = YesNo>>(
     line: &'a [u8],
     tally: &mut Tally,
 ) -> Result<LineReport<'a>, StepFault>
-    ensures { λ r. ⌜ Stepped (meaning (now (rule .entry))) (now (line .entry)) (now (tally .entry)) r (now (tally .exit)) ⌝ }
+    ensures stepped { λ r. ⌜ Stepped (meaning (now (rule .entry))) (now (line .entry)) (now (tally .entry)) r (now (tally .exit)) ⌝ }
+    ensures tells { λ r. ⌜ made r (λ l. (os : List Outcome) → Tells (now (tally .entry)) os → Tells (now (tally .exit)) (os ++ l .outcome ∷ [])) ⌝ }
 {
     let outcome = follow_line(heap, rule, line)?;
     tally.count(&outcome)?;

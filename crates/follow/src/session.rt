@@ -1,10 +1,10 @@
-use crate::report::LineReportDisplay;
-use crate::report::TallyDisplay;
-use crate::step::StepFaultError;
-use crate::step::next_report;
-use crate::tally::Tally;
 use automata::automaton::Automaton;
 use automata::yes_no::YesNo;
+use histories::report::LineReportDisplay;
+use histories::report::TallyDisplay;
+use histories::step::StepFaultError;
+use histories::step::next_report;
+use histories::tally::Tally;
 use std::error::AnyError;
 use std::io::BufRead;
 use std::io::BufReader;
@@ -12,7 +12,10 @@ use std::io::BufWriter;
 use std::io::Write;
 
 /// Follows each line of the standard input, and prints a report of each, and the tally at the end.
-pub fn run<A: Automaton<V = YesNo>>(rt: &LibcRuntime, rule: &A) -> Result<(), AnyError> {
+pub(crate) fn follow_input<A: Automaton<V = YesNo>>(
+    rt: &LibcRuntime,
+    rule: &A,
+) -> Result<(), AnyError> {
     let mut out = BufWriter::new(rt.stdout());
     let mut tally = Tally::new();
     for line in BufReader::new(rt.stdin()).split(rt.alloc(), b'\n') {
