@@ -36,8 +36,10 @@ abbrev pub report : ℕ → ℕ → Outcome → List ℕ
 report number below (Followed n v) = decimal number ++ (codes ": " ++ (decimal n ++ (codes " letters, " ++ spelt v)))
 report number below (Unreadable t) = decimal number ++ (codes ": " ++ complaint below (t .fault) (t .text .now))
 
+-- The counts of a tally.
+abbrev pub counts : Tally → List ℕ
+counts t = decimal (t .yes) ++ (codes " yes, " ++ (decimal (t .no) ++ (codes " no, " ++ (decimal (t .unreadable) ++ codes " not readable"))))
+
 -- The last line: how many histories there were, and what came of them.
 abbrev pub summary : Tally → List ℕ
-summary t =
-    decimal (total t) ++ (codes " histories: " ++ (decimal (t .yes + t .no) ++ (codes " followed, "
-    ++ (decimal (t .yes) ++ (codes " yes, " ++ (decimal (t .no) ++ (codes " no, " ++ (decimal (t .unreadable) ++ codes " not readable"))))))))
+summary t = decimal (total t) ++ (codes " histories: " ++ (decimal (t .yes + t .no) ++ (codes " followed, " ++ counts t)))

@@ -24,5 +24,5 @@ Stepped m line t (Err Full) u = (u ≡ t) × (total t ≡ 2 ^ 64 - 1)
 
 -- how it is printed that a line is left out
 abbrev pub excuse : StepFault → List ℕ
-excuse Memory = codes "no memory for a history"
-excuse Full = codes "too many histories"
+excuse Memory = codes "out of memory"
+excuse Full = codes "tally is full"

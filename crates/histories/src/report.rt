@@ -3,7 +3,7 @@ ghost use mathlib.Core.Bool.{false};
 ghost use Prim.Native.Nat.{_<_};
 ghost use Rattle.std.specs.Written.{Prints, glyph};
 ghost use Rattle.std.specs.declared.option.Option.the-variants.{Some};
-ghost use Rattle.histories.specs.Reports.{visible, printed-byte, printed, complaint, report, summary};
+ghost use Rattle.histories.specs.Reports.{visible, printed-byte, printed, complaint, report, counts, summary};
 use crate::line::WrongToken;
 use crate::outcome::Outcome;
 use crate::tally::Tally;
@@ -29,6 +29,10 @@ pub struct LineReport<'a> {
     pub below: usize,
     pub outcome: Outcome<'a>,
 }
+
+/// The counts of a tally.
+#[derive(Clone, Copy)]
+pub struct Counts(pub Tally);
 
 /// Whether a byte is printed as it is: a visible ASCII character, and no backslash.
 fn is_visible(byte: u8) -> bool
@@ -103,18 +107,24 @@ pub impl fmt::Display for LineReport<'_> as LineReportDisplay {
     }
 }
 
+pub impl fmt::Display for Counts as CountsDisplay {
+    ghost shown = { λ c. Some (counts (c .0)) };
+
+    fn fmt<W: fmt::Write>(&self, f: &mut fmt::Formatter<W>) -> fmt::Result {
+        let yes = self.0.yes;
+        let no = self.0.no;
+        let unreadable = self.0.unreadable;
+        write!(f, "{yes} yes, {no} no, {unreadable} not readable")
+    }
+}
+
 pub impl fmt::Display for Tally as TallyDisplay {
     ghost shown = { λ t. Some (summary t) };
 
     fn fmt<W: fmt::Write>(&self, f: &mut fmt::Formatter<W>) -> fmt::Result {
-        let histories = self.histories();
-        let followed = self.followed();
-        let yes = self.yes;
-        let no = self.no;
-        let unreadable = self.unreadable;
-        write!(
-            f,
-            "{histories} histories: {followed} followed, {yes} yes, {no} no, {unreadable} not readable"
-        )
+        let followed = self.yes + self.no;
+        let histories = followed + self.unreadable;
+        let counts = Counts(*self);
+        write!(f, "{histories} histories: {followed} followed, {counts}")
     }
 }

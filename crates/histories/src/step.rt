@@ -30,7 +30,7 @@ pub impl From<AllocError> for StepFault as StepFromAlloc {
     ghost converts = { λ _ r. r ≡ Memory };
 
     fn from(_e: AllocError) -> StepFault {
-        StepFault::Memory
+        Self::Memory
     }
 }
 
@@ -38,7 +38,7 @@ pub impl From<TallyFull> for StepFault as StepFromFull {
     ghost converts = { λ _ r. r ≡ Full };
 
     fn from(_e: TallyFull) -> StepFault {
-        StepFault::Full
+        Self::Full
     }
 }
 
@@ -47,8 +47,8 @@ pub impl fmt::Display for StepFault as StepFaultDisplay {
 
     fn fmt<W: fmt::Write>(&self, f: &mut fmt::Formatter<W>) -> fmt::Result {
         match self {
-            StepFault::Memory => f.write_str("no memory for a history"),
-            StepFault::Full => f.write_str("too many histories"),
+            StepFault::Memory => f.write_str("out of memory"),
+            StepFault::Full => f.write_str("tally is full"),
         }
     }
 }
