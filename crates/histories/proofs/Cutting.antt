@@ -3,13 +3,12 @@ use mathlib.Core.Path.{_≡_, refl, sym, ap, _∙_}
 use mathlib.Core.Bool.{true, false}
 use mathlib.Core.Logic.{⊎-elim}
 use mathlib.Core.List.{List, [], _∷_, _++_, append-nil, append-assoc}
-use Prim.Native.Nat.{ℕ, _<_}
+use Prim.Native.Nat.{ℕ}
 use native.Mathlib.Omega.{arith}
-use lib.ListN.{length}
 use Rattle.std.specs.shelf.Lists.{All}
 use Rattle.std.proofs.shelf.Elements.{all-push}
 use Rattle.std.proofs.shelf.Tests.{cases-bool}
-use Rattle.histories.specs.Tokens.{blank, closed, tokens, tokens-after}
+use Rattle.histories.specs.Tokens.{blank, tokens, tokens-after}
 use Rattle.histories.specs.Pieces.{Piece, gap, token, written, tokens-among, Solid, Proper, Cut-right}
 use Rattle.histories.proofs.Scanning.{closed-some}
 

@@ -1,5 +1,5 @@
 -- Reading tokens as a word.
-use mathlib.Core.Path.{_≡_, refl, sym, ap, subst, _∙_}
+use mathlib.Core.Path.{_≡_, refl, ap, subst, _∙_}
 use mathlib.Core.List.{List, [], _∷_, _++_}
 use Prim.Native.Nat.{ℕ, _<_}
 use native.Mathlib.Omega.{arith}
@@ -16,8 +16,8 @@ use Rattle.automata.specs.Words.{Word, First-foreign}
 use Rattle.histories.specs.declared.line.LineFault.{LineFault}
 use Rattle.histories.specs.declared.line.LineFault.the-variants.{Token, Memory}
 use Rattle.histories.specs.declared.token.TokenFault.{TokenFault}
-use Rattle.histories.specs.Letters.{letter-of, value}
-use Rattle.histories.specs.Histories.{Reading, word, wrong, with-letter, letters-after, Read}
+use Rattle.histories.specs.Letters.{letter-of}
+use Rattle.histories.specs.Histories.{Reading, word, with-letter, letters-after, Read}
 use Rattle.histories.specs.Tokens.{tokens}
 
 -- a letter of k is below k

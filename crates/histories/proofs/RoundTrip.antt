@@ -1,15 +1,11 @@
 -- A word that is spelled is read back.
-use mathlib.Core.Path.{_≡_, refl, sym, ap, subst, _∙_}
-use mathlib.Core.Bool.{Bool, true, false}
+use mathlib.Core.Path.{_≡_, refl, sym, ap, _∙_}
+use mathlib.Core.Bool.{true, false}
 use mathlib.Core.List.{List, [], _∷_, _++_, map, append-nil, append-assoc}
-use Prim.Native.Nat.{ℕ, _+_, _^_, _<_, _≤_}
+use Prim.Native.Nat.{ℕ, _+_, _^_, _<_}
 use native.Mathlib.Omega.{arith}
-use borrow.Author.Needs.{needs}
-use lib.ListN.{length}
 use Rattle.std.specs.Text.{asciiDigit}
 use Rattle.std.specs.Written.{decimal}
-use Rattle.std.specs.Of.Vec.{vec-items}
-use Rattle.std.specs.shelf.Lists.{All}
 use Rattle.std.specs.shelf.Text.{allDigits}
 use Rattle.std.specs.declared.alloc.Global.{Global}
 use Rattle.std.specs.declared.result.Result.{Result}
@@ -24,8 +20,8 @@ use Rattle.histories.specs.declared.line.LineFault.{LineFault}
 use Rattle.histories.specs.declared.line.LineFault.the-variants.{Token, Memory}
 use Rattle.histories.specs.Tokens.{blank, tokens}
 use Rattle.histories.specs.Letters.{value-after, value, letter-of}
-use Rattle.histories.specs.Histories.{Reading, word, wrong, with-letter, letters-after, history-of, Read}
-use Rattle.histories.specs.Spelling.{spelled, Word-read, Reads-back}
+use Rattle.histories.specs.Histories.{word, letters-after, history-of, Read}
+use Rattle.histories.specs.Spelling.{spelled, Reads-back}
 use Rattle.histories.specs.Pieces.{Solid}
 use Rattle.histories.proofs.Cutting.{Unbroken, first-token, last-token}
 use Rattle.histories.proofs.Values.{below}

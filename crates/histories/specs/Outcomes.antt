@@ -1,6 +1,5 @@
 -- What comes of a line.
 use mathlib.Core.Path.{_≡_}
-use Prim.Native.Nat.{ℕ}
 use lib.ListN.{length}
 use Rattle.automata.specs.Meaning.{Meaning}
 use Rattle.automata.specs.Words.{verdict-of}

@@ -6,7 +6,6 @@ use lib.Chars.{codes}
 use lib.Dec.{eqb, ltb}
 use Rattle.std.specs.Written.{decimal, glyph}
 use Rattle.automata.specs.YesNo.{spelt}
-use Rattle.histories.specs.declared.line.WrongToken.{WrongToken}
 use Rattle.histories.specs.declared.outcome.Outcome.{Outcome}
 use Rattle.histories.specs.declared.outcome.Outcome.the-variants.{Followed, Unreadable}
 use Rattle.histories.specs.declared.tally.Tally.{Tally}

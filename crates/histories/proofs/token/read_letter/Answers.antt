@@ -1,7 +1,6 @@
 use mathlib.Core.Path.{_≡_, sym, ap, _∙_}
-use Prim.Native.Nat.{ℕ, _+_, _-_, _*_, min, _<_, _≤_}
+use Prim.Native.Nat.{ℕ, _-_, min}
 use native.Mathlib.Omega.{arith}
-use lib.ListN.{getD}
 use Rattle.std.specs.declared.result.Result.the-variants.{Ok}
 use Rattle.histories.specs.Letters.{value}
 use Rattle.histories.proofs.Values.{digits-more, digits-stop, digits-end, digit-more, digit-ends, no-number, below, not-below}

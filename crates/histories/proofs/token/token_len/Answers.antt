@@ -1,11 +1,10 @@
-use mathlib.Core.Path.{_≡_, sym, ap, subst, _∙_}
-use mathlib.Core.Bool.{true, false}
+use mathlib.Core.Path.{_≡_, sym, ap, _∙_}
 use Prim.Native.Nat.{ℕ}
 use native.Mathlib.Omega.{arith}
 use lib.ListN.{length, take, drop, getD}
 use Rattle.std.proofs.shelf.Tests.{both-ways, cases-lt}
 use mathlib.Core.Logic.{⊎-elim}
-use Rattle.histories.specs.Tokens.{blank, tokens, tokens-after, closed}
+use Rattle.histories.specs.Tokens.{blank, tokens-after}
 use Rattle.histories.proofs.Scanning.{run-more, run-stops, run-ends}
 use Rattle.histories.proofs.token.token_len.Needs as need
 

@@ -1,8 +1,6 @@
-use mathlib.Core.Path.{_≡_, ap}
-use mathlib.Core.Bool.{true}
+use mathlib.Core.Path.{ap}
 use Rattle.std.specs.Results.{isOk}
 use Rattle.std.proofs.Writes.{put-is, put-more, wrote-none}
-use Rattle.histories.specs.Reports.{printed}
 use Rattle.histories.proofs.Printing.{printed-more, printed-all}
 use Rattle.histories.proofs.report.TokenTextDisplay.fmt.Needs as need
 
