@@ -17,7 +17,7 @@ use Rattle.histories.specs.declared.line.LineFault.{LineFault}
 use Rattle.histories.specs.declared.line.LineFault.the-variants.{Token, Memory}
 use Rattle.histories.specs.declared.token.TokenFault.{TokenFault}
 use Rattle.histories.specs.Letters.{letter-of}
-use Rattle.histories.specs.Histories.{Reading, word, with-letter, letters-after, Read}
+use Rattle.histories.specs.Histories.{Reading, word, with-letter, letters-after, Begins, Read}
 use Rattle.histories.specs.Tokens.{tokens}
 
 -- a letter of k is below k
@@ -46,3 +46,8 @@ pub read-below : (k : ℕ) (line : List ℕ) (r : Result (Vec ℕ Global) LineFa
 read-below k line (Ok v) e = letters-below k [] (tokens line) (vec-items v) tt e
 read-below k line (Err (Token t)) e = tt
 read-below k line (Err Memory) e = tt
+
+-- after n letters: none was read of the tokens, or the first is a letter
+pub record Begun (k : ℕ) (all : List (List ℕ)) (n : ℕ) (left : List (List ℕ)) : Type 0 where
+  pub none-yet : n ≡ 0 → all ≡ left
+  pub some-already : 0 < n → Begins k all

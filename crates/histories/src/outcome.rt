@@ -1,6 +1,7 @@
-ghost use Rattle.std.specs.Vec.{made};
-ghost use Rattle.histories.specs.Histories.{history-of};
+ghost use Rattle.std.specs.Results.{Cases};
+ghost use Rattle.histories.specs.Histories.{history-of, Begins};
 ghost use Rattle.histories.specs.Outcomes.{Came};
+ghost use Rattle.histories.specs.Tokens.{tokens};
 use crate::line::LineFault;
 use crate::line::WrongToken;
 use crate::line::read_line;
@@ -25,7 +26,7 @@ pub fn follow_line<'a, A: Automaton<V = YesNo>>(
     rule: &A,
     line: &'a [u8],
 ) -> Result<Outcome<'a>, AllocError>
-    ensures { λ r. ⌜ made r (λ o. Came (meaning (now (rule .entry))) (history-of (meaning (now (rule .entry)) .k) (now (line .entry))) o) ⌝ }
+    ensures { λ r. ⌜ Cases r (λ o. Came (meaning (now (rule .entry))) (history-of (meaning (now (rule .entry)) .k) (now (line .entry))) o) (λ _. Begins (meaning (now (rule .entry)) .k) (tokens (now (line .entry)))) ⌝ }
 {
     let _sound = rule.states();
     let letters = rule.letters() as u8;
