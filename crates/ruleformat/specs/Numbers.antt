@@ -1,5 +1,9 @@
--- The number and the place of a file's fault.
+-- The number and the place of a file's fault, and the name of a kind.
+use mathlib.Core.List.{List}
 use Prim.Native.Nat.{ℕ}
+use lib.Chars.{codes}
+use Rattle.ruleformat.specs.declared.format.Kind.{Kind as TableKind}
+use Rattle.ruleformat.specs.declared.format.Kind.the-variants.{Dense, Edges}
 use Rattle.ruleformat.specs.declared.fault.FileFault.{FileFault}
 use Rattle.ruleformat.specs.declared.fault.FileFault.the-variants.{Short, Kind, Figures, Distance, Entry, Verdict}
 
@@ -18,3 +22,8 @@ place-of (Figures p) = p
 place-of (Distance p) = p
 place-of (Entry p) = p
 place-of (Verdict p) = p
+
+-- how a kind is printed
+abbrev pub kind-name : TableKind → List ℕ
+kind-name Dense = codes "dense"
+kind-name Edges = codes "edges"

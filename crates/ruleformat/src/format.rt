@@ -1,10 +1,24 @@
 // What the bytes of a rule file hold.
+ghost use Rattle.std.specs.declared.option.Option.the-variants.{Some};
+ghost use Rattle.ruleformat.specs.Numbers.{kind-name};
+use std::fmt;
 
 /// The two kinds of transitions: a target for each state and letter, or a list of edges.
 #[derive(Clone, Copy, PartialEq, Eq, Debug)]
 pub enum Kind {
     Dense,
     Edges,
+}
+
+pub impl fmt::Display for Kind as KindDisplay {
+    ghost shown = { λ kd. Some (kind-name kd) };
+
+    fn fmt<W: fmt::Write>(&self, f: &mut fmt::Formatter<W>) -> fmt::Result {
+        match self {
+            Kind::Dense => f.write_str("dense"),
+            Kind::Edges => f.write_str("edges"),
+        }
+    }
 }
 
 /// The numbers of a file's last 16 bytes, as they stand there. A distance counts back from the
