@@ -9,7 +9,7 @@ pub(crate) enum Failure {
     /// It was not called with one rule file.
     Call,
     /// The rule file cannot be read.
-    File(io::Error),
+    File { path: String, error: io::Error },
     /// The rule file is refused.
     Refused(FileFault),
     /// Reading or writing failed later.
@@ -37,7 +37,7 @@ pub(crate) fn tell(rt: &LibcRuntime, ended: &Result<(), Failure>) {
     };
     let _ = match failure {
         Failure::Call => eprintln!(rt, "{USAGE}"),
-        Failure::File(e) => eprintln!(rt, "{e}\n{USAGE}"),
+        Failure::File { path, error } => eprintln!(rt, "{path}: {error}\n{USAGE}"),
         Failure::Refused(fault) => println!(rt, "{fault}"),
         Failure::Broken(e) => eprintln!(rt, "{e}"),
     };

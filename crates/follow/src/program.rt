@@ -26,7 +26,7 @@ pub(crate) fn run(rt: &LibcRuntime) -> Result<(), Failure> {
     let path = rule_path(rt)?;
     let file = match fs::read(rt, path.as_str()) {
         Ok(bytes) => bytes,
-        Err(e) => return Err(Failure::File(e)),
+        Err(error) => return Err(Failure::File { path, error }),
     };
     let header = match check::<YesNo>(file.as_slice(), None) {
         Ok(header) => header,

@@ -100,9 +100,13 @@ fn lengths() -> Result<(), Fail> {
 }
 
 #[test]
-fn other_kind_wanted() -> Result<(), Fail> {
+fn other_kind_wanted(rt: LibcRuntime) -> Result<(), Fail> {
     check_eq(fault::<YesNo>(DENSE, Some(Kind::Edges)), Some((2, 15)))?;
-    check_eq(fault::<YesNo>(EDGES, Some(Kind::Dense)), Some((2, 27)))
+    check_eq(fault::<YesNo>(EDGES, Some(Kind::Dense)), Some((2, 27)))?;
+    let noted = changed(rt.alloc(), &NOTES, DENSE, &[])?;
+    check_eq(fault::<YesNo>(&noted, Some(Kind::Edges)), Some((2, 20)))?;
+    let noted = changed(rt.alloc(), &NOTES, EDGES, &[])?;
+    check_eq(fault::<YesNo>(&noted, Some(Kind::Dense)), Some((2, 32)))
 }
 
 const DENSE_TRAILERS: [(Changes, Option<(u8, usize)>); 27] = [
