@@ -1,4 +1,6 @@
-// Verdicts, automata and words: what the rest of the library stands on.
+//! Verdicts, automata and words: what the rest of the library stands on.
+#![tactic(auto)]
+
 pub mod automaton;
 pub mod closed;
 pub mod release;

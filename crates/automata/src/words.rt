@@ -13,8 +13,8 @@ pub struct NoLetter {
 
 /// The state where a word ends that is followed from the start state.
 pub fn follow_word<A: Automaton>(rule: &A, word: &[u8]) -> Result<usize, NoLetter>
-    ensures ends { MatchResult result (λ s. Word (meaning rule.now).k word.now × (s ≡ follow (meaning rule.now) (meaning rule.now).start word.now)) (λ e. FirstForeign (meaning rule.now).k word.now e.index e.letter) }
-    ensures reached { IfOk result (λ s. Reachable (meaning rule.now) s × (s < (meaning rule.now).n)) }
+    ensures ends { MatchResult result (λ s. Word (A.meaning rule.now).k word.now × (s ≡ follow (A.meaning rule.now) (A.meaning rule.now).start word.now)) (λ e. FirstForeign (A.meaning rule.now).k word.now e.index e.letter) }
+    ensures reached { IfOk result (λ s. Reachable (A.meaning rule.now) s × (s < (A.meaning rule.now).n)) }
 {
     let _sound = rule.states();
     let letters = rule.letters();
@@ -31,7 +31,7 @@ pub fn follow_word<A: Automaton>(rule: &A, word: &[u8]) -> Result<usize, NoLette
 
 /// The verdict that an automaton gives to a word.
 pub fn word_verdict<A: Automaton>(rule: &A, word: &[u8]) -> Result<A::V, NoLetter>
-    ensures { MatchResult result (λ v. Word (meaning rule.now).k word.now × (v ≡ verdict_of (meaning rule.now) word.now)) (λ e. FirstForeign (meaning rule.now).k word.now e.index e.letter) }
+    ensures { MatchResult result (λ v. Word (A.meaning rule.now).k word.now × (v ≡ verdict_of (A.meaning rule.now) word.now)) (λ e. FirstForeign (A.meaning rule.now).k word.now e.index e.letter) }
 {
     let state = follow_word(rule, word)?;
     Ok(rule.verdict(state))

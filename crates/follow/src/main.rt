@@ -1,4 +1,6 @@
-// follow RULEFILE: follows the histories on the standard input, one a line, through a rule file.
+//! follow RULEFILE: follows the histories on the standard input, one a line, through a rule file.
+#![tactic(auto)]
+
 mod failure;
 mod heading;
 mod program;

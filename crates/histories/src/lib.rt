@@ -1,4 +1,6 @@
-// Reads lines of text as histories, follows them through an automaton, and tells what came of them.
+//! Reads lines of text as histories, follows them through an automaton, and tells what came of them.
+#![tactic(auto)]
+
 pub mod line;
 pub mod outcome;
 pub mod report;

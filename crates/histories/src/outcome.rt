@@ -24,7 +24,7 @@ pub fn follow_line<'a, A: Automaton<V = YesNo>>(
     rule: &A,
     line: &'a [u8],
 ) -> Result<Outcome<'a>, AllocError>
-    ensures { MatchResult result (λ o. Came (meaning rule.now) (history_of (meaning rule.now).k line.now) o) (λ _. Begins (meaning rule.now).k (tokens line.now)) }
+    ensures { MatchResult result (λ o. Came (A.meaning rule.now) (history_of (A.meaning rule.now).k line.now) o) (λ _. Begins (A.meaning rule.now).k (tokens line.now)) }
 {
     let _sound = rule.states();
     let letters = rule.letters() as u8;

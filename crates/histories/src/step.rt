@@ -58,7 +58,7 @@ pub fn next_report<'a, A: Automaton<V = YesNo>>(
     line: &'a [u8],
     tally: &mut Tally,
 ) -> Result<LineReport<'a>, StepFault>
-    ensures stepped { Stepped (meaning rule.now) line.now tally.old result tally.new }
+    ensures stepped { Stepped (A.meaning rule.now) line.now tally.old result tally.new }
     ensures tells { IfOk result (λ l. (os : List Outcome) → Tells tally.old os → Tells tally.new (os ++ l.outcome ∷ [])) }
 {
     let outcome = follow_line(heap, rule, line)?;

@@ -15,7 +15,7 @@ pub struct Walk {
 /// Follows the letters of a line from the start state, up to the first wrong token. The history is
 /// followed as it is read, and is not kept.
 pub fn walk_line<'a, A: Automaton>(rule: &A, line: &'a [u8]) -> Result<Walk, WrongToken<'a>>
-    ensures { Walked (meaning rule.now) (history_of (meaning rule.now).k line.now) result }
+    ensures { Walked (A.meaning rule.now) (history_of (A.meaning rule.now).k line.now) result }
 {
     let _sound = rule.states();
     let below = rule.letters() as u8;

@@ -1,4 +1,6 @@
-// Examples run: verdicts, rule files good and refused, the automata made from them, words.
+//! Examples run: verdicts, rule files good and refused, the automata made from them, words.
+#![tactic(auto)]
+
 #[cfg(test)]
 mod answers;
 #[cfg(test)]

@@ -1,2 +1,4 @@
-// The check of a rule file.
+//! The check of a rule file.
+#![tactic(auto)]
+
 pub mod check;

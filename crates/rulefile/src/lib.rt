@@ -1,4 +1,6 @@
-// The automata over a rule file: the dense table, the edge list, and a file of either kind.
+//! The automata over a rule file: the dense table, the edge list, and a file of either kind.
+#![tactic(auto)]
+
 pub mod dense;
 pub mod edges;
 mod halving;

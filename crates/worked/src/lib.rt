@@ -1,4 +1,6 @@
-// Worked rules: small files and what they mean, as facts about the definitions.
+//! Worked rules: small files and what they mean, as facts about the definitions.
+#![tactic(auto)]
+
 ghost use Rattle.worked.specs.SaveRemove.{MeansRule, TellsApart};
 
 /// Four edges, 0 by 0 to 1, 0 by 1 to 2, 1 by 0 to 0, 1 by 1 to 2, mean the same automaton as the
