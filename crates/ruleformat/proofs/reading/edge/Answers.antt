@@ -10,7 +10,7 @@ returns c =
     let at = c.args.at in
     λ i. record {
       state = c.two.ensures i;
-      first = (c.byte.ensures ∙ ap (λ (p : ℕ). get_or f p 0) c.saturating-add.ensures ∙ byte_capped f (omega arith) (at + 2)) i;
-      last = (c.byte-2.ensures ∙ ap (λ (p : ℕ). get_or f p 0) c.saturating-add-2.ensures ∙ byte_capped f (omega arith) (at + 3)) i;
-      target = (c.two-2.ensures ∙ ap (two_at f) c.saturating-add-3.ensures ∙ two_capped f (omega arith) (at + 4)) i;
+      first = (c.byte.ensures ∙ ap (λ (p : ℕ). get_or f p 0) c.saturating_add.ensures ∙ byte_capped f (omega arith) (at + 2)) i;
+      last = (c.byte-2.ensures ∙ ap (λ (p : ℕ). get_or f p 0) c.saturating_add-2.ensures ∙ byte_capped f (omega arith) (at + 3)) i;
+      target = (c.two-2.ensures ∙ ap (two_at f) c.saturating_add-3.ensures ∙ two_capped f (omega arith) (at + 4)) i;
     }
