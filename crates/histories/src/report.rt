@@ -52,7 +52,7 @@ fn hex_digit(n: u8) -> char
 
 /// Prints one byte.
 fn put_byte<W: fmt::Write>(byte: u8, f: &mut fmt::Formatter<W>) -> fmt::Result
-    ensures { WritesOnOk write_str_gives f.old result (printed_byte byte) f.new }
+    ensures { WritesOnOk W.write_str_gives f.old result (printed_byte byte) f.new }
 {
     if is_visible(byte) {
         return f.write_char(byte as char);

@@ -6,8 +6,8 @@ use Rattle.std.proofs.Common.{arith}
 
 pub returns : goal.returns
 returns c = record {
-  read = c.read-tokens.ensures;
-  below = read_below c.args.letters c.args.line.now c.read-tokens.result c.read-tokens.ensures;
+  read = c.read_tokens.ensures;
+  below = read_below c.args.letters c.args.line.now c.read_tokens.result c.read_tokens.ensures;
   cut = cut_right c.args.line.now;
-  back = reads_back c.args.letters (omega arith) c.args.line.now c.read-tokens.result c.read-tokens.ensures;
+  back = reads_back c.args.letters (omega arith) c.args.line.now c.read_tokens.result c.read_tokens.ensures;
 }

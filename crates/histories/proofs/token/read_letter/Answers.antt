@@ -3,16 +3,16 @@ use Rattle.histories.specs.Letters.{value}
 use Rattle.histories.proofs.Values.{digits_more, digits_stop, digits_end, digit_more, digit_ends, no_number, below, not_below}
 use Rattle.histories.proofs.token.read_letter.Goals as goal
 
-pub returns-then-not-is-ascii-digit : goal.returns-then-not-is-ascii-digit
-returns-then-not-is-ascii-digit c =
-    sym (no_number c.args.letters c.args.token.now (c.loop-byte.invariant.0 ∙ digits_stop c.args.token.now c.loop-byte.byte-index c.loop-byte-test.true (sym c.if-not-is-ascii-digit.ensures.value)))
+pub returns-then-not-is_ascii_digit : goal.returns-then-not-is_ascii_digit
+returns-then-not-is_ascii_digit c =
+    sym (no_number c.args.letters c.args.token.now (c.loop-byte.invariant.0 ∙ digits_stop c.args.token.now c.loop-byte.byte-index c.loop-byte-test.true (sym c.if-not-is_ascii_digit.ensures.value)))
 
 pub loop-byte-preserved : goal.loop-byte-preserved
 loop-byte-preserved c =
     let token = c.args.token.now in
     let i = c.loop-byte.byte-index in (
-      c.loop-byte.invariant.0 ∙ digits_more token i c.loop-byte-test.true (sym c.if-not-is-ascii-digit.ensures.value),
-      c.loop-byte.invariant.1 ∙ digit_more token i c.loop-byte.value c.saturating-add-value.result c.loop-byte-test.true (omega arith),
+      c.loop-byte.invariant.0 ∙ digits_more token i c.loop-byte-test.true (sym c.if-not-is_ascii_digit.ensures.value),
+      c.loop-byte.invariant.1 ∙ digit_more token i c.loop-byte.value c.saturating_add-value.result c.loop-byte-test.true (omega arith),
     )
 
 pub returns-then-value-letters : goal.returns-then-value-letters

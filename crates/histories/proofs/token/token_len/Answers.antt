@@ -4,11 +4,11 @@ use Rattle.histories.specs.Tokens.{blank, tokens_after}
 use Rattle.histories.proofs.Scanning.{run_more, run_stops, run_ends}
 use Rattle.histories.proofs.token.token_len.Goals as goal
 
-pub returns-then-is-blank : goal.returns-then-is-blank
-returns-then-is-blank c =
+pub returns-then-is_blank : goal.returns-then-is_blank
+returns-then-is_blank c =
     let text = c.args.text.now in
     let i = c.loop-i.i in
-    let here = sym c.if-is-blank.ensures in
+    let here = sym c.if-is_blank.ensures in
     record {
       within = omega arith;
       cut = c.loop-i.invariant ∙ run_stops (take i text) text i c.loop-i-test.true here;
@@ -17,7 +17,7 @@ returns-then-is-blank c =
     }
 
 pub loop-i-preserved : goal.loop-i-preserved
-loop-i-preserved c = c.loop-i.invariant ∙ run_more c.args.text.now c.loop-i.i c.loop-i-test.true (sym c.if-is-blank.ensures)
+loop-i-preserved c = c.loop-i.invariant ∙ run_more c.args.text.now c.loop-i.i c.loop-i-test.true (sym c.if-is_blank.ensures)
 
 pub returns : goal.returns
 returns c =

@@ -10,14 +10,14 @@ part_at f from n i long h =
     let len = length-between f from (from + n) (omega arith) in
     (omega arith, get_or-between f from (from + n) i 0 (omega arith))
 
-pub returns-then-is-none : goal.returns-then-is-none
-returns-then-is-none g c =
+pub returns-then-is_none : goal.returns-then-is_none
+returns-then-is_none g c =
     let p = part_at c.args.file.now c.args.h.verdicts c.args.h.states c.loop-s.s (omega (arith, c.requires)) c.loop-s-test.true in
     let e = ap is_some (c.read.ensures.value ∙ ap (λ (b : ℕ). g.V.Verdict.reads b) p.1) in
-    (c.loop-s.s, record { within = omega arith; wrong = λ says. both_ways (is_some c.read.result) c.if-is-none.ensures (e ∙ says); before = c.loop-s.invariant }, omega arith)
+    (c.loop-s.s, record { within = omega arith; wrong = λ says. both_ways (is_some c.read.result) c.if-is_none.ensures (e ∙ says); before = c.loop-s.invariant }, omega arith)
 
 pub loop-s-preserved : goal.loop-s-preserved
 loop-s-preserved g c =
     let p = part_at c.args.file.now c.args.h.verdicts c.args.h.states c.loop-s.s (omega (arith, c.requires)) c.loop-s-test.true in
     let e = ap is_some (c.read.ensures.value ∙ ap (λ (b : ℕ). g.V.Verdict.reads b) p.1) in
-    below_more _ _ c.loop-s.invariant (sym e ∙ c.if-is-none.ensures)
+    below_more _ _ c.loop-s.invariant (sym e ∙ c.if-is_none.ensures)

@@ -9,11 +9,11 @@ loop-state-preserved c =
     let h = c.args.h in
     let xs = c.loop-state.firsts in
     let s = c.loop-state.state in
-    let first = c.first-from.result in
-    let found = c.first-from.ensures in
+    let first = c.first_from.result in
+    let found = c.first_from.ensures in
     let within : s < length xs = omega (arith, c.loop-state.invariant.0, c.requires.states_fit) in (
       length-set xs s first ∙ c.loop-state.invariant.0,
       below_more _ _
           (λ t lt. let other : t ≢ s = omega arith in rw get_or-set_other (c.loop-state.invariant.1 t lt))
-          (rw get_or-set_same (index_is f h c.requires.right s first found.high-bound found.before found.behind)),
+          (rw get_or-set_same (index_is f h c.requires.right s first found.high_bound found.before found.behind)),
     )

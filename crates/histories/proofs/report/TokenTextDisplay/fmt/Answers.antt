@@ -9,7 +9,7 @@ loop-byte-init g c = λ plain. record { wrote = writes_in_calls_nil _ _; plain =
 pub loop-byte-preserved : goal.loop-byte-preserved
 loop-byte-preserved g c = λ plain.
     let so_far = c.loop-byte.invariant plain in
-    let here = c.put-byte.ensures so_far.plain (ap is_ok c.in-ok-put-byte.was) in
+    let here = c.put_byte.ensures so_far.plain (ap is_ok c.in_ok-put_byte.was) in
     has_written_of_eq _ _ _ _ _ (printed_more c.args.self.now.0.now c.loop-byte.byte-index c.loop-byte-test.true) (has_written_append _ _ _ _ _ _ so_far here)
 
 pub returns-clause-writes : goal.returns-clause-writes

@@ -8,8 +8,8 @@ use Rattle.ruleformat.proofs.Makings.{good_ranged, good_closes, of_answer, there
 use Rattle.ruleformat.proofs.TableLaws.{edges_lead}
 use Rattle.rulefile.proofs.edges.EdgeList.make.Goals as goal
 
-pub index-edges-requires : goal.index-edges-requires
-index-edges-requires g c =
+pub index_edges-requires : goal.index_edges-requires
+index_edges-requires g c =
     let f = c.args.file.now in
     let reads = g.V.Verdict.reads in
     let known = of_answer reads f Edges c.check.result c.ok-header.result c.check.ensures.answer c.ok-header.ensures.value in
@@ -19,23 +19,18 @@ index-edges-requires g c =
       right = known (AllRight Edges f) (λ good. good.entries);
     }
 
-pub invariant-of-result : goal.invariant-of-result
-invariant-of-result g c =
+pub invariant_of-result : goal.invariant_of-result
+invariant_of-result g c =
     let f = c.args.file.now in
     let reads = g.V.Verdict.reads in
-    let known = of_answer reads f Edges c.check.result c.ok-header.result c.check.ensures.answer c.ok-header.ensures.value in (
-      known InRanges (good_ranged reads f Edges _),
-      (
-        known (Closes (length f) Edges) (good_closes reads f Edges _),
-        (
-          λ h is. ∣ known (AllRight Edges f) (λ good. good.entries) h is ∣₁,
-          (
-            c.index-edges.ensures.sized,
-            (λ h is. ∣ c.index-edges.ensures.indexed h is ∣₁, tt),
-          ),
-        ),
-      ),
-    )
+    let known = of_answer reads f Edges c.check.result c.ok-header.result c.check.ensures.answer c.ok-header.ensures.value in
+    record {
+      ranged = known InRanges (good_ranged reads f Edges _);
+      closes = known (Closes (length f) Edges) (good_closes reads f Edges _);
+      edges = λ h is. ∣ known (AllRight Edges f) (λ good. good.entries) h is ∣₁;
+      sized = c.index_edges.ensures.sized;
+      indexed = λ h is. ∣ c.index_edges.ensures.indexed h is ∣₁;
+    }
 
 pub returns : goal.returns
 returns g c =

@@ -1,8 +1,8 @@
 use Rattle.ruleformat.proofs.Once.{edges_out, index_out}
 use Rattle.rulefile.proofs.edges.answers.EdgeListAutomaton.next.Goals as goal
 
-pub follow-edges-requires : goal.follow-edges-requires
-follow-edges-requires g c =
+pub follow_edges-requires : goal.follow_edges-requires
+follow_edges-requires g c =
     let t = c.args.self.now in
     let h = c.in-Some.h in
     let is = c.in-Some.is in
