@@ -3,7 +3,7 @@ use Rattle.std.proofs.Common.{◌≡◌, ℕ, ◌+◌, ◌<◌, ◌≤◌, List,
 use Rattle.std.proofs.ByRecursion.{All-from_get_or}
 use Rattle.std.proofs.lemmas.List.{take_more}
 use Rattle.automata.specs.Meaning.{Meaning, Sound}
-use Rattle.automata.specs.Words.{Word, follow, Reachable}
+use Rattle.automata.specs.Words.{Word, follow}
 
 module _ {V : Type 0} (m : Meaning V) where
   pub follow-append : (s : ℕ) (u w : List ℕ) → follow m s (u ++ w) ≡ follow m (follow m s u) w

@@ -6,10 +6,13 @@ mod heading;
 mod program;
 mod session;
 
-use failure::Failure;
+use std::process::ExitCode;
 
-fn main(rt: HostRuntime) -> Result<(), Failure> {
+fn main(rt: HostRuntime) -> ExitCode {
     let ended = program::run(&rt);
     failure::tell(&rt, &ended);
-    ended
+    match ended {
+        Ok(()) => ExitCode::SUCCESS,
+        Err(_) => ExitCode::FAILURE,
+    }
 }

@@ -9,6 +9,7 @@ use rulefile::edges::EdgeList;
 use rulefile::rule_file::RuleFile;
 use ruleformat::format::Kind;
 use std::alloc::{AllocError, Global};
+use std::test::Fail;
 
 /// What an automaton is to mean: a start, a number of letters, and for each state its targets and its verdict's byte.
 #[derive(Clone, Copy)]
@@ -92,10 +93,11 @@ fn worked_behind(heap: Global, notes: &[u8]) -> Result<bool, AllocError> {
 // Notes never matter, even if they are a file themselves.
 #[test]
 fn worked_files(rt: HostRuntime) -> Result<(), Fail> {
-    check(worked_behind(rt.alloc(), &[])?)?;
-    check(worked_behind(rt.alloc(), &NOTES)?)?;
-    check(worked_behind(rt.alloc(), DENSE)?)?;
-    check(worked_behind(rt.alloc(), EDGES)?)
+    assert!(rt; worked_behind(rt.alloc(), &[])?);
+    assert!(rt; worked_behind(rt.alloc(), &NOTES)?);
+    assert!(rt; worked_behind(rt.alloc(), DENSE)?);
+    assert!(rt; worked_behind(rt.alloc(), EDGES)?);
+    Ok(())
 }
 
 // Ranges of letters, letters that are not listed, and a state without edges.
@@ -108,7 +110,8 @@ const RANGES: Table<'static> = Table {
 #[test]
 fn ranges(rt: HostRuntime) -> Result<(), Fail> {
     let file = edge_file(rt.alloc(), &[[0, 0, 1, 1], [0, 3, 3, 2], [2, 1, 2, 0]])?;
-    check(edges_mean::<YesNo>(&file, &RANGES))
+    assert!(rt; edges_mean::<YesNo>(&file, &RANGES));
+    Ok(())
 }
 
 // Another start and verdicts with reasons, in a dense file, and in an edge list with no edges.
@@ -132,14 +135,15 @@ fn releases(rt: HostRuntime) -> Result<(), Fail> {
         DENSE,
         &[(12, 6), (13, 254), (14, 253), (27, 2)],
     )?;
-    check(dense_means::<Release>(&dense, &RELEASES))?;
+    assert!(rt; dense_means::<Release>(&dense, &RELEASES));
     let edges = changed(
         rt.alloc(),
         &[],
         EDGES,
         &[(24, 6), (25, 254), (26, 253), (39, 2), (27, 3)],
     )?;
-    check(edges_mean::<Release>(&edges, &STAYS))
+    assert!(rt; edges_mean::<Release>(&edges, &STAYS));
+    Ok(())
 }
 
 // A change for each refusal's number from 2 to 6, to the dense file and to the edge list.
@@ -160,9 +164,10 @@ fn closed(heap: Global, file: &[u8], changes: &[(usize, u8)]) -> Result<bool, Al
 
 #[test]
 fn refused_is_closed(rt: HostRuntime) -> Result<(), Fail> {
-    check(dense_means::<YesNo>(&[1; 15], &CLOSED))?;
-    check(closed(rt.alloc(), DENSE, &DENSE_FAULTS)?)?;
-    check(closed(rt.alloc(), EDGES, &EDGES_FAULTS)?)
+    assert!(rt; dense_means::<YesNo>(&[1; 15], &CLOSED));
+    assert!(rt; closed(rt.alloc(), DENSE, &DENSE_FAULTS)?);
+    assert!(rt; closed(rt.alloc(), EDGES, &EDGES_FAULTS)?);
+    Ok(())
 }
 
 // The answers to a file of 128 states and 64 letters.
@@ -187,7 +192,8 @@ fn full<A: Automaton>(rule: &A) -> bool {
 #[test]
 fn largest(rt: HostRuntime) -> Result<(), Fail> {
     let dense = full_file(rt.alloc(), Kind::Dense, 128, 64)?;
-    check(full(&DenseTable::<YesNo>::make(&dense)))?;
+    assert!(rt; full(&DenseTable::<YesNo>::make(&dense)));
     let edges = full_file(rt.alloc(), Kind::Edges, 128, 64)?;
-    check(full(&EdgeList::<YesNo>::make(&edges)) && full(&RuleFile::<YesNo>::make(&edges)))
+    assert!(rt; full(&EdgeList::<YesNo>::make(&edges)) && full(&RuleFile::<YesNo>::make(&edges)));
+    Ok(())
 }

@@ -4,6 +4,7 @@ use automata::release::Release;
 use automata::yes_no::YesNo;
 use rulecheck::check;
 use std::alloc::{AllocError, Global};
+use std::test::Fail;
 
 #[test]
 fn third_byte(rt: HostRuntime) -> Result<(), Fail> {

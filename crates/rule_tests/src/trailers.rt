@@ -3,6 +3,7 @@ use crate::drafts::*;
 use automata::yes_no::YesNo;
 use rulecheck::check;
 use ruleformat::format::{Header, Kind};
+use std::test::Fail;
 
 #[test]
 fn dense_header(rt: HostRuntime) -> Result<(), Fail> {

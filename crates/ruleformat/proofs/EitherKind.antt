@@ -5,7 +5,7 @@ use Rattle.ruleformat.specs.declared.format.Kind.{Kind}
 use Rattle.ruleformat.specs.declared.format.Kind.TheVariants.{Dense, Edges}
 use Rattle.ruleformat.specs.Bytes.{trailer_of}
 use Rattle.ruleformat.specs.Layout.{Known, header_of}
-use Rattle.ruleformat.specs.Faults.{Headed, Good}
+use Rattle.ruleformat.specs.Faults.{Good}
 use Rattle.ruleformat.specs.Makes.{Makes, MakesEither, table_of, by_kind}
 use Rattle.ruleformat.proofs.Unique.{known_same}
 

@@ -1,12 +1,12 @@
 -- What is found in the edges of a good file.
-use Rattle.std.proofs.Common.{◌≡◌, ℕ, zero, suc, ◌+◌, ◌-◌, ◌<◌, ◌≤◌, true, false, List, get_or, sym, refl, ap, ◌∙◌, subst, ⊎_elim, arith}
+use Rattle.std.proofs.Common.{◌≡◌, ℕ, zero, suc, ◌+◌, ◌<◌, ◌≤◌, true, false, List, sym, ◌∙◌, subst, ⊎_elim, arith}
 use Rattle.std.proofs.lemmas.Bool.{cases_lt, cases_order, cond_both}
 use Rattle.ruleformat.specs.declared.format.Edge.{Edge}
 use Rattle.ruleformat.specs.declared.format.Header.{Header}
 use Rattle.ruleformat.specs.declared.format.Kind.TheVariants.{Edges}
 use Rattle.ruleformat.specs.Faults.{AllRight, edge_of}
 use Rattle.ruleformat.specs.EdgeWords.{Lists, Leads, lists, lead, comes_before, IndexOf}
-use Rattle.ruleformat.proofs.Rising.{before_unlisted, behind_last, before_state, state_before, rises_far, lower_part, upper_part, once, lead_listed, lead_unlisted}
+use Rattle.ruleformat.proofs.Rising.{before_unlisted, behind_last, before_state, state_before, rises_far, lower_part, upper_part, lead_listed, lead_unlisted}
 
 module _ (f : List ℕ) (h : Header) (right : AllRight Edges f h) where
   abbrev es : ℕ → Edge

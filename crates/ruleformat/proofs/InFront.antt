@@ -1,10 +1,8 @@
 -- Bytes in front of a file move its parts, and change nothing in them.
-use Rattle.std.proofs.Common.{◌≡◌, ℕ, ◌+◌, ◌-◌, ◌*◌, ◌<◌, ◌≤◌, cond, ltb, List, ◌++◌, length, get_or, is_some, Option, unwrap_or, sym, refl, ap, ◌∙◌, subst, arith}
+use Rattle.std.proofs.Common.{◌≡◌, ℕ, ◌+◌, ◌-◌, ◌*◌, ◌<◌, ◌≤◌, cond, ltb, List, ◌++◌, length, get_or, is_some, Option, unwrap_or, sym, ap, ◌∙◌, subst, arith}
 use Rattle.std.proofs.lemmas.List.{get_or-append-add, length-append}
-use Rattle.automata.specs.Meaning.{Meaning}
 use Rattle.ruleformat.specs.declared.format.Kind.{Kind}
 use Rattle.ruleformat.specs.declared.format.Kind.TheVariants.{Dense, Edges}
-use Rattle.ruleformat.specs.declared.format.Trailer.{Trailer}
 use Rattle.ruleformat.specs.declared.format.Header.{Header}
 use Rattle.ruleformat.specs.declared.format.Edge.{Edge}
 use Rattle.ruleformat.specs.Bytes.{two_at, four_at, trailer_place, trailer_of, edge_at}

@@ -1,5 +1,5 @@
 -- A file has one answer: it is good, or it has one fault.
-use Rattle.std.proofs.Common.{◌≡◌, ℕ, ◌<◌, List, length, Ok, Err, Option, Result, sym, refl, ap, ◌∙◌, subst, ⊎_elim, arith}
+use Rattle.std.proofs.Common.{◌≡◌, ℕ, List, length, Ok, Err, Option, Result, sym, refl, ap, ◌∙◌, subst, ⊎_elim, arith}
 use Rattle.std.proofs.lemmas.Bool.{cases_order}
 use Rattle.ruleformat.specs.declared.format.Trailer.{Trailer}
 use Rattle.ruleformat.specs.declared.format.Header.{Header}
@@ -9,7 +9,7 @@ use Rattle.ruleformat.specs.declared.fault.FileFault.{FileFault}
 use Rattle.ruleformat.specs.declared.fault.FileFault.TheVariants as fault
 use Rattle.ruleformat.specs.Bytes.{trailer_of}
 use Rattle.ruleformat.specs.Layout.{Known, Laid, kind_byte, header_of, entry_place, verdict_place}
-use Rattle.ruleformat.specs.Faults.{Right, AllRight, Reads, FirstWrong, Headed, Good, Refused, Answers}
+use Rattle.ruleformat.specs.Faults.{Right, AllRight, FirstWrong, Good, Refused, Answers}
 
 byte_same : (a b : Kind) → kind_byte a ≡ kind_byte b → a ≡ b
 byte_same Dense Dense e = refl

@@ -1,5 +1,5 @@
 -- Where a list of edges leads, and in which order the edges stand.
-use Rattle.std.specs.Prelude.{◌≡◌, ℕ, zero, suc, ◌<◌, ◌≤◌, Bool, cond, ◌&&◌, ◌||◌, List, length, ◌==◌, nat_le, nat_lt, slice_index}
+use Rattle.std.specs.Prelude.{◌≡◌, ℕ, zero, suc, ◌<◌, ◌≤◌, Bool, cond, ◌&&◌, ◌||◌, List, ◌==◌, nat_le, nat_lt, slice_index}
 use Rattle.ruleformat.specs.declared.format.Edge.{Edge}
 use Rattle.ruleformat.specs.declared.format.Header.{Header}
 use Rattle.ruleformat.specs.Faults.{edge_of}

@@ -1,8 +1,7 @@
 -- What the tables of rule files mean.
-use Rattle.std.specs.Prelude.{◌≡◌, ℕ, ◌+◌, ◌*◌, ◌<◌, ◌≤◌, cond, ◌&&◌, List, length, Some, None, Option, nat_lt, slice_index}
+use Rattle.std.specs.Prelude.{ℕ, ◌+◌, ◌*◌, ◌<◌, ◌≤◌, cond, ◌&&◌, List, Some, None, Option, nat_lt, slice_index}
 use Rattle.std.specs.Option.{unwrap_or}
 use Rattle.automata.specs.Meaning.{Meaning, closed_rule}
-use Rattle.ruleformat.specs.declared.format.Kind.{Kind}
 use Rattle.ruleformat.specs.declared.format.Kind.TheVariants.{Dense}
 use Rattle.ruleformat.specs.declared.format.Header.{Header}
 use Rattle.ruleformat.specs.Bytes.{two_at}

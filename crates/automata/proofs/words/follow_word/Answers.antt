@@ -1,4 +1,4 @@
-use Rattle.std.proofs.Common.{ℕ, ◌<◌, sym, subst, arith, below_more}
+use Rattle.std.proofs.Common.{ℕ, sym, subst, below_more}
 use Rattle.automata.specs.Words.{Word}
 use Rattle.automata.proofs.Following.{follow_step, follow_end, follow_within, letters_word}
 use Rattle.automata.proofs.words.follow_word.Goals as goal

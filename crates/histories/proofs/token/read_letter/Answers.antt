@@ -1,4 +1,4 @@
-use Rattle.std.proofs.Common.{◌≡◌, ℕ, ◌-◌, min, Ok, sym, ap, ◌∙◌, arith}
+use Rattle.std.proofs.Common.{◌≡◌, ℕ, min, Ok, sym, ap, ◌∙◌, arith}
 use Rattle.histories.specs.Letters.{value}
 use Rattle.histories.proofs.Values.{digits_more, digits_stop, digits_end, digit_more, digit_ends, no_number, below, not_below}
 use Rattle.histories.proofs.token.read_letter.Goals as goal

@@ -1,7 +1,6 @@
-use Rattle.std.proofs.Common.{◌≡◌, ℕ, ◌+◌, ◌<◌, ◌≤◌, get_or, sym, ap, ◌∙◌, subst, arith}
+use Rattle.std.proofs.Common.{◌+◌, ◌<◌, ◌≤◌, get_or, ap, ◌∙◌, arith}
 use Rattle.ruleformat.specs.declared.format.Edge.{Edge}
 use Rattle.ruleformat.specs.Faults.{edge_of}
-use Rattle.ruleformat.specs.EdgeWords.{IndexOf}
 use Rattle.ruleformat.proofs.Finding.{forward, past_all, in_gap, found_lists, leads_to, stays_at}
 use Rattle.rulefile.proofs.halving.follow_edges.Goals as goal
 

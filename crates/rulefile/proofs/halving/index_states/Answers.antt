@@ -1,5 +1,4 @@
-use Rattle.std.proofs.Common.{◌≡◌, ℕ, ◌<◌, ◌≢◌, length, get_or, set, sym, ◌∙◌, subst, arith, length-set, get_or-set_other, get_or-set_same, below_more}
-use Rattle.ruleformat.specs.EdgeWords.{IndexOf}
+use Rattle.std.proofs.Common.{◌<◌, ◌≢◌, length, ◌∙◌, arith, length-set, get_or-set_other, get_or-set_same, below_more}
 use Rattle.ruleformat.proofs.Finding.{index_is}
 use Rattle.rulefile.proofs.halving.index_states.Goals as goal
 

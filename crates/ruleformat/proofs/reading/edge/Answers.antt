@@ -1,4 +1,4 @@
-use Rattle.std.proofs.Common.{◌≡◌, ℕ, ◌+◌, get_or, ap, ◌∙◌, arith}
+use Rattle.std.proofs.Common.{ℕ, ◌+◌, get_or, ap, ◌∙◌, arith}
 use Rattle.ruleformat.specs.Bytes.{two_at, edge_at}
 use Rattle.ruleformat.proofs.Capped.{byte_capped, two_capped}
 use Rattle.ruleformat.proofs.reading.edge.Goals as goal

@@ -1,4 +1,4 @@
-use Rattle.std.proofs.Common.{◌≡◌, ℕ, ◌+◌, ap, ◌∙◌, arith}
+use Rattle.std.proofs.Common.{◌≡◌, ◌+◌, ap, ◌∙◌, arith}
 use Rattle.ruleformat.specs.Bytes.{two_at}
 use Rattle.ruleformat.proofs.Capped.{two_capped}
 use Rattle.ruleformat.proofs.reading.four.Goals as goal

@@ -1,5 +1,4 @@
 use Rattle.std.proofs.Common.{◌≡◌, ◌*◌, length, refl}
-use Rattle.ruleformat.specs.declared.format.Header.{Header}
 use Rattle.ruleformat.specs.declared.format.Kind.TheVariants.{Dense}
 use Rattle.ruleformat.specs.Layout.{Closes}
 use Rattle.ruleformat.specs.Faults.{AllRight}

@@ -1,5 +1,4 @@
-use Rattle.std.proofs.Common.{◌≡◌, length, refl}
-use Rattle.ruleformat.specs.declared.format.Header.{Header}
+use Rattle.std.proofs.Common.{length}
 use Rattle.ruleformat.specs.declared.format.Kind.TheVariants.{Edges}
 use Rattle.ruleformat.specs.Layout.{Closes, header_of}
 use Rattle.ruleformat.specs.Faults.{AllRight}

@@ -1,4 +1,4 @@
-use Rattle.std.proofs.Common.{◌≡◌, sym, ◌∙◌, subst}
+use Rattle.std.proofs.Common.{sym, ◌∙◌, subst}
 use Rattle.ruleformat.specs.declared.format.Kind.{Kind}
 use borrow.Author.Tests.{clash}
 use Rattle.ruleformat.proofs.EitherKind.{Chosen, picked, kind_is}

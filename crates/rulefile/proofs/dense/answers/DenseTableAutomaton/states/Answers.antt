@@ -1,6 +1,5 @@
-use Rattle.std.proofs.Common.{◌≡◌, sym, refl, subst}
-use Rattle.automata.specs.Meaning.{Meaning, Sound}
-use Rattle.ruleformat.proofs.TableLaws.{with_header, dense_sound}
+use Rattle.std.proofs.Common.{refl}
+use Rattle.ruleformat.proofs.TableLaws.{dense_sound}
 use Rattle.rulefile.proofs.dense.answers.DenseTableAutomaton.states.Goals as goal
 
 pub returns-in-Some : goal.returns-in-Some

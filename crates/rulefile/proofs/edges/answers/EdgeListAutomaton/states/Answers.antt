@@ -1,4 +1,4 @@
-use Rattle.std.proofs.Common.{◌≡◌, refl}
+use Rattle.std.proofs.Common.{refl}
 use Rattle.ruleformat.proofs.Once.{edges_out}
 use Rattle.ruleformat.proofs.TableLaws.{edges_sound}
 use Rattle.rulefile.proofs.edges.answers.EdgeListAutomaton.states.Goals as goal
