@@ -1,11 +1,11 @@
 -- Words, where they lead, and which states they tell apart.
 use Rattle.std.specs.Prelude.{◌≡◌, ℕ, ◌<◌, ◌≤◌, Bool, true, false, List, [], ◌∷◌, length, slice_index}
-use Rattle.std.specs.List.{AllByRecursion as All}
+use Rattle.std.specs.List.{AllByRecursion}
 use Rattle.automata.specs.Meaning.{Meaning}
 
 -- A word over k letters: a list of numbers below k, perhaps empty.
 abbrev pub Word : ℕ → List ℕ → Type 0
-Word k w = All (λ a. a < k) w
+Word k w = AllByRecursion (λ a. a < k) w
 
 -- The extended transition function: the state where a word ends that is followed from s.
 abbrev pub follow : {V : Type 0} → Meaning V → ℕ → List ℕ → ℕ

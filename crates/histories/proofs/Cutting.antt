@@ -1,6 +1,6 @@
 -- Every line is made of blanks and tokens, and its tokens are those.
 use Rattle.std.proofs.Common.{◌≡◌, ℕ, true, false, List, [], ◌∷◌, ◌++◌, sym, refl, ap, ◌∙◌, ⊎_elim, append_assoc, append-nil, arith}
-use Rattle.std.specs.List.{AllByRecursion as All}
+use Rattle.std.specs.List.{AllByRecursion}
 use Rattle.std.proofs.ByRecursion.{All-push}
 use Rattle.std.proofs.lemmas.Bool.{cases_Bool}
 use Rattle.histories.specs.Tokens.{blank, tokens, tokens_after}
@@ -9,7 +9,7 @@ use Rattle.histories.proofs.Scanning.{closed_some}
 
 -- no byte is a blank
 abbrev pub Unbroken : List ℕ → Type 0
-Unbroken t = All (λ b. blank b ≡ false) t
+Unbroken t = AllByRecursion (λ b. blank b ≡ false) t
 
 -- such bytes go behind the run
 run_on : (run t rest : List ℕ) → Unbroken t → tokens_after run (t ++ rest) ≡ tokens_after (run ++ t) rest

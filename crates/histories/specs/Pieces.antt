@@ -1,6 +1,6 @@
 -- A line as blanks and tokens.
 use Rattle.std.specs.Prelude.{◌≡◌, ℕ, ◌<◌, true, false, List, [], ◌∷◌, ◌++◌, length}
-use Rattle.std.specs.List.{AllByRecursion as All}
+use Rattle.std.specs.List.{AllByRecursion}
 use Rattle.histories.specs.Tokens.{blank, tokens}
 
 -- A piece of a line: one blank, or one token.
@@ -22,7 +22,7 @@ tokens_among (token t ∷ ps) = t ∷ tokens_among ps
 
 -- A token has some bytes, and none is a blank.
 abbrev pub Solid : List ℕ → Type 0
-Solid t = (0 < length t) × All (λ b. blank b ≡ false) t
+Solid t = (0 < length t) × AllByRecursion (λ b. blank b ≡ false) t
 
 -- Gaps are blanks, tokens are tokens, and no token stands right behind another.
 abbrev pub Proper : List Piece → Type 0
