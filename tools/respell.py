@@ -21,7 +21,7 @@ Reads-back Tells-apart Word-read
 """.split()
 
 OTHERS = """
-answers-same at-blank before-state before-unlisted behind-blank behind-last byte-capped byte-same byte-says closed-rule
+answers-same at-blank before-state by-refl by-sym by-trans before-unlisted behind-blank behind-last byte-capped byte-same byte-says closed-rule
 comes-before decision-number dense-meaning dense-sound dense-table digit-ends digit-more digit-solid digits-end digits-solid
 digits-stop edge-meaning edge-table edges-file edges-lead edges-out edges-same edges-sound entries-close entry-count entry-same
 entry-size file-meaning first-same first-token first-version follow-end follow-step follow-within found-lists four-at from-index
