@@ -17,8 +17,12 @@ pub trait Verdict: Drop {
     /// The verdict of a byte, or none where the byte is no verdict.
     ghost reads: { ℕ → Option Self };
 
+    /// Two verdicts are the same exactly if their bytes are equal.
     fn same(&self, other: &Self) -> bool
-        ensures { result ≡ alike self.now other.now };
+        ensures { result ≡ alike self.now other.now }
+    {
+        self.byte() == other.byte()
+    }
 
     fn closing() -> Self
         ensures { result ≡ closing };

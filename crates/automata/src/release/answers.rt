@@ -28,10 +28,6 @@ impl Verdict for Release {
 
     ghost laws = { release_laws };
 
-    fn same(&self, other: &Release) -> bool {
-        self.byte() == other.byte()
-    }
-
     fn closing() -> Release {
         Release {
             decision: Decision::Refuse,

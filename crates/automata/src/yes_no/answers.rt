@@ -17,10 +17,6 @@ impl Verdict for YesNo {
 
     ghost laws = { yes_no_laws };
 
-    fn same(&self, other: &YesNo) -> bool {
-        self.byte() == other.byte()
-    }
-
     fn closing() -> YesNo {
         Self::No
     }
