@@ -1,14 +1,19 @@
 -- A decision with a reason: the byte is 4 × reason + decision, and a byte with remainder 3 by 4 is no verdict.
-use Rattle.std.specs.Prelude.{ℕ, ◌+◌, ◌*◌, ◌/◌, ◌%◌, ◌≤◌, Bool, cond, Some, None, Option, ◌==◌}
+use Rattle.std.specs.Prelude.{◌≡◌, ℕ, ◌+◌, ◌*◌, ◌/◌, ◌%◌, ◌<◌, ◌≤◌, Bool, cond, Some, None, Option, Result, MatchResult, ◌==◌}
 use Rattle.std.proofs.Common.{arith}
 use Rattle.automata.specs.declared.release.Decision.{Decision}
 use Rattle.automata.specs.declared.release.Decision.TheVariants.{Refuse, Hold, Cut}
 use Rattle.automata.specs.declared.release.Release.{Release}
+use Rattle.automata.specs.declared.verdict.NoVerdict.{NoVerdict}
 
 abbrev pub decision_number : Decision → ℕ
 decision_number Refuse = 0
 decision_number Hold = 1
 decision_number Cut = 2
+
+-- a number is converted to the decision of that number; where it is above 2, the error has the number
+abbrev pub DecidesBy : ℕ → Result Decision NoVerdict → Type 0
+DecidesBy n r = MatchResult r (λ d. decision_number d ≡ n) (λ e. (2 < n) × (e.0 ≡ n))
 
 abbrev pub byte_of : Release → ℕ
 byte_of v = 4 * v.reason + decision_number v.decision

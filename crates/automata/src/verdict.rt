@@ -1,5 +1,8 @@
-ghost use Rattle.std.specs.Prelude.{◌≡◌, ℕ, Bool, Option};
+ghost use Rattle.std.specs.Prelude.{◌≡◌, ◌++◌, ℕ, Bool, Some, Option, codes, decimal};
 ghost use Rattle.automata.specs.Verdicts.{Laws};
+
+use std::error::Error;
+use std::fmt;
 
 /// What an automaton says of a history: a type whose values can be told apart, one of which is
 /// the closing verdict, and which have a byte form. Whatever is built over automata serves every
@@ -18,6 +21,7 @@ pub trait Verdict: Drop {
     ghost reads: { ℕ → Option Self };
 
     /// Two verdicts are the same exactly if their bytes are equal.
+    #[tactic(auto, using(crate::proofs::Sameness::same_is))]
     fn same(&self, other: &Self) -> bool
         ensures { result ≡ alike self.now other.now }
     {
@@ -35,3 +39,17 @@ pub trait Verdict: Drop {
 
     ghost laws: { Laws alike code reads };
 }
+
+/// A number that stands for no verdict, or for no part of one.
+#[derive(Clone, Copy, PartialEq, Eq, Debug)]
+pub struct NoVerdict(pub u8);
+
+impl fmt::Display for NoVerdict {
+    ghost output = { λ e. Some (codes "no verdict has byte " ++ decimal e.0) };
+
+    fn fmt<W: fmt::Write>(&self, f: &mut fmt::Formatter<W>) -> fmt::Result {
+        write!(f, "no verdict has byte {}", self.0)
+    }
+}
+
+impl Error for NoVerdict {}

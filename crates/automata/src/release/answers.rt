@@ -1,9 +1,24 @@
 ghost use Rattle.std.specs.Prelude.{◌≡◌, ◌%◌, ◌<◌, is_some, MatchOption, nat_lt};
-ghost use Rattle.automata.specs.Release.{same_byte, refused, byte_of, verdict_of_byte};
+ghost use Rattle.automata.specs.Release.{same_byte, refused, byte_of, verdict_of_byte, DecidesBy};
 ghost use Rattle.automata.specs.ReleaseLaws.{release_laws};
 
 use super::{Decision, Release};
-use crate::verdict::Verdict;
+use crate::verdict::{NoVerdict, Verdict};
+
+impl TryFrom<u8> for Decision {
+    type Error = NoVerdict;
+
+    ghost try_from_gives = { DecidesBy };
+
+    fn try_from(number: u8) -> Result<Decision, NoVerdict> {
+        match number {
+            0 => Ok(Decision::Refuse),
+            1 => Ok(Decision::Hold),
+            2 => Ok(Decision::Cut),
+            _ => Err(NoVerdict(number)),
+        }
+    }
+}
 
 impl Release {
     /// The verdict of a decision and a reason, or none where the reason is above 63.
@@ -44,13 +59,8 @@ impl Verdict for Release {
         ensures value { result ≡ verdict_of_byte byte }
         ensures exact { is_some result ≡ nat_lt (byte % 4) 3 }
     {
+        let decision = Decision::try_from(byte % 4).ok()?;
         let reason = byte / 4;
-        let decision = match byte % 4 {
-            0 => Decision::Refuse,
-            1 => Decision::Hold,
-            2 => Decision::Cut,
-            _ => return None,
-        };
         Some(Release { decision, reason })
     }
 }

@@ -1,9 +1,10 @@
 ghost use Rattle.std.specs.Prelude.{◌≡◌, is_some, Some, nat_lt};
+ghost use Rattle.automata.specs.Verdicts.{Converts};
 ghost use Rattle.automata.specs.YesNo.{same_byte, says_no, byte_of, verdict_of_byte, spelt};
 ghost use Rattle.automata.specs.YesNoLaws.{yes_no_laws};
 
 use super::YesNo;
-use crate::verdict::Verdict;
+use crate::verdict::{NoVerdict, Verdict};
 use std::fmt;
 
 impl Verdict for YesNo {
@@ -30,10 +31,20 @@ impl Verdict for YesNo {
         ensures value { result ≡ verdict_of_byte byte }
         ensures exact { is_some result ≡ nat_lt byte 2 }
     {
+        YesNo::try_from(byte).ok()
+    }
+}
+
+impl TryFrom<u8> for YesNo {
+    type Error = NoVerdict;
+
+    ghost try_from_gives = { Converts verdict_of_byte };
+
+    fn try_from(byte: u8) -> Result<YesNo, NoVerdict> {
         match byte {
-            0 => Some(YesNo::No),
-            1 => Some(YesNo::Yes),
-            _ => None,
+            0 => Ok(YesNo::No),
+            1 => Ok(YesNo::Yes),
+            _ => Err(NoVerdict(byte)),
         }
     }
 }
