@@ -6,4 +6,3 @@ pub mod TableLaws
 pub mod Makings
 pub mod EitherKind
 pub mod InFront
-pub mod Capped

@@ -1,16 +1,21 @@
 -- Where the parts of a file stand: entries, then verdicts, then the trailer, one directly behind the other. What stands
 -- before the entries is notes, and no definition reads it.
-use Rattle.std.specs.Prelude.{◌≡◌, ℕ, ◌+◌, ◌-◌, ◌*◌, ◌/◌, ◌<◌, ◌≤◌, List, Some, None, Option}
+use Rattle.std.specs.Prelude.{◌≡◌, ℕ, ◌+◌, ◌-◌, ◌*◌, ◌/◌, ◌<◌, ◌≤◌, List, Some, None, Option, Result, MatchResult}
 use Rattle.ruleformat.specs.declared.format.Kind.{Kind}
 use Rattle.ruleformat.specs.declared.format.Kind.TheVariants.{Dense, Edges}
 use Rattle.ruleformat.specs.declared.format.Trailer.{Trailer}
 use Rattle.ruleformat.specs.declared.format.Header.{Header}
+use Rattle.ruleformat.specs.declared.format.UnknownKind.{UnknownKind}
 use Rattle.ruleformat.specs.Bytes.{trailer_place, trailer_of}
 
 -- the byte that says a kind, the length of its entries, and how many there are
 abbrev pub kind_byte : Kind → ℕ
 kind_byte Dense = 1
 kind_byte Edges = 2
+
+-- a byte is converted to the kind that it says; where it says none, the error has the byte
+abbrev pub SaysKind : ℕ → Result Kind UnknownKind → Type 0
+SaysKind byte r = MatchResult r (λ kd. byte ≡ kind_byte kd) (λ e. ((kd : Kind) → byte ≡ kind_byte kd → ⊥) × (e.0 ≡ byte))
 
 abbrev pub entry_size : Kind → ℕ
 entry_size Dense = 2

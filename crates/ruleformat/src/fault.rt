@@ -54,12 +54,12 @@ impl FileFault {
         ensures { result ≡ place_of self.now }
     {
         match *self {
-            FileFault::Short { place } => place,
-            FileFault::Kind { place } => place,
-            FileFault::Figures { place } => place,
-            FileFault::Distance { place } => place,
-            FileFault::Entry { place } => place,
-            FileFault::Verdict { place } => place,
+            FileFault::Short { place }
+            | FileFault::Kind { place }
+            | FileFault::Figures { place }
+            | FileFault::Distance { place }
+            | FileFault::Entry { place }
+            | FileFault::Verdict { place } => place,
         }
     }
 }
@@ -68,9 +68,7 @@ impl fmt::Display for FileFault {
     ghost output = { λ f. Some (codes "refused " ++ (decimal (number_of f) ++ (codes " at " ++ decimal (place_of f)))) };
 
     fn fmt<W: fmt::Write>(&self, f: &mut fmt::Formatter<W>) -> fmt::Result {
-        let number = self.number();
-        let place = self.place();
-        write!(f, "refused {number} at {place}")
+        write!(f, "refused {} at {}", self.number(), self.place())
     }
 }
 

@@ -1,7 +1,9 @@
 // What the bytes of a rule file hold.
-ghost use Rattle.std.specs.Prelude.{Some};
+ghost use Rattle.std.specs.Prelude.{◌≡◌, ◌++◌, Some, codes, decimal};
+ghost use Rattle.ruleformat.specs.Layout.{kind_byte, entry_size, SaysKind};
 ghost use Rattle.ruleformat.specs.Numbers.{kind_name};
 
+use std::error::Error;
 use std::fmt;
 
 /// The two kinds of transitions: a target for each state and letter, or a list of edges.
@@ -10,6 +12,57 @@ pub enum Kind {
     Dense,
     Edges,
 }
+
+impl Kind {
+    /// How many bytes an entry has: a target two, an edge six.
+    pub fn entry_size(self) -> usize
+        ensures { result ≡ entry_size self }
+    {
+        match self {
+            Kind::Dense => 2,
+            Kind::Edges => 6,
+        }
+    }
+}
+
+/// A byte that says no kind.
+#[derive(Clone, Copy, PartialEq, Eq, Debug)]
+pub struct UnknownKind(pub u8);
+
+impl TryFrom<u8> for Kind {
+    type Error = UnknownKind;
+
+    ghost try_from_gives = { SaysKind };
+
+    fn try_from(byte: u8) -> Result<Kind, UnknownKind> {
+        match byte {
+            1 => Ok(Kind::Dense),
+            2 => Ok(Kind::Edges),
+            _ => Err(UnknownKind(byte)),
+        }
+    }
+}
+
+impl From<Kind> for u8 {
+    ghost from_gives = { λ kd byte. byte ≡ kind_byte kd };
+
+    fn from(kind: Kind) -> u8 {
+        match kind {
+            Kind::Dense => 1,
+            Kind::Edges => 2,
+        }
+    }
+}
+
+impl fmt::Display for UnknownKind {
+    ghost output = { λ e. Some (codes "no kind has byte " ++ decimal e.0) };
+
+    fn fmt<W: fmt::Write>(&self, f: &mut fmt::Formatter<W>) -> fmt::Result {
+        write!(f, "no kind has byte {}", self.0)
+    }
+}
+
+impl Error for UnknownKind {}
 
 impl fmt::Display for Kind {
     ghost output = { λ kd. Some (kind_name kd) };

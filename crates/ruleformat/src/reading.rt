@@ -8,24 +8,30 @@ use crate::format::Edge;
 pub fn byte(file: &[u8], at: usize) -> u8
     ensures { result ≡ slice_index file.now at }
 {
-    if at < file.len() { file[at] } else { 0 }
+    file.get(at).copied().unwrap_or(0)
 }
 
 /// The number in two bytes.
 pub fn two(file: &[u8], at: usize) -> usize
     ensures { result ≡ two_at file.now at }
 {
-    byte(file, at) as usize + byte(file, at.saturating_add(1)) as usize * 256
+    usize::from(u16::from_le_bytes([byte(file, at), byte(file, at.saturating_add(1))]))
 }
 
 /// The number in four bytes.
 pub fn four(file: &[u8], at: usize) -> usize
     ensures { result ≡ four_at file.now at }
 {
-    two(file, at) + two(file, at.saturating_add(2)) * 65536
+    u32::from_le_bytes([
+        byte(file, at),
+        byte(file, at.saturating_add(1)),
+        byte(file, at.saturating_add(2)),
+        byte(file, at.saturating_add(3)),
+    ]) as usize
 }
 
 /// The edge in six bytes.
+#[tactic(auto, unfolding(crate::specs::Bytes::edge_at))]
 pub fn edge(file: &[u8], at: usize) -> Edge
     ensures { result ≡ edge_at file.now at }
 {
