@@ -2,3 +2,5 @@
 #![tactic(auto)]
 
 pub mod check;
+mod parts;
+mod tail;

@@ -6,3 +6,4 @@ pub mod TableLaws
 pub mod Makings
 pub mod EitherKind
 pub mod InFront
+pub mod Headings

@@ -1,0 +1,104 @@
+// Goes through a file's entries and verdicts, and names the first that is wrong.
+ghost use Rattle.std.specs.Prelude.{◌≡◌, ℕ, ◌<◌, ◌↔◌, IsTrue, length, MatchResult, MatchOption};
+ghost use Rattle.ruleformat.specs.declared.format.Kind.TheVariants as kinds;
+ghost use Rattle.ruleformat.specs.Layout.{Closes, entry_place, verdict_place};
+ghost use Rattle.ruleformat.specs.Faults.{InTable, Rises, Right, AllRight, Reads, FirstWrong};
+
+use automata::verdict::Verdict;
+use ruleformat::fault::{EntryFault, VerdictFault};
+use ruleformat::format::{Edge, Header, Kind};
+use ruleformat::reading::{edge, two};
+
+// A file with what its trailer says of it. The entries, the verdicts and the trailer follow one another.
+#[derive(Clone, Copy)]
+pub(crate) struct Parts<'a> {
+    pub(crate) file: &'a [u8],
+    pub(crate) header: Header,
+    ghost closes: { Closes (length file.now) header.kind header },
+}
+
+impl Parts<'_> {
+    fn entry_place(&self, i: usize) -> usize
+        requires { i < self.now.header.entries }
+        ensures { result ≡ entry_place self.now.header.kind self.now.header i }
+    {
+        self.header.transitions + self.header.kind.entry_size() * i
+    }
+
+    // Whether target i is a state.
+    fn target_right(&self, i: usize) -> bool
+        requires dense { self.now.header.kind ≡ kinds.Dense }
+        requires within { i < self.now.header.entries }
+        ensures { IsTrue result ↔ Right kinds.Dense self.now.file.now self.now.header i }
+    {
+        two(self.file, self.entry_place(i)) < self.header.states
+    }
+
+    // Whether edge i is one of the table's and comes behind the edge before it.
+    fn edge_right(&self, i: usize) -> bool
+        requires edges { self.now.header.kind ≡ kinds.Edges }
+        requires within { i < self.now.header.entries }
+        ensures { IsTrue result ↔ Right kinds.Edges self.now.file.now self.now.header i }
+    {
+        let e = edge(self.file, self.entry_place(i));
+        in_table(&self.header, &e)
+            && (i == 0 || rises(&edge(self.file, self.entry_place(i - 1)), &e))
+    }
+
+    // Whether entry i is as the rules of its kind say.
+    fn entry_right(&self, i: usize) -> bool
+        requires { i < self.now.header.entries }
+        ensures { IsTrue result ↔ Right self.now.header.kind self.now.file.now self.now.header i }
+    {
+        match self.header.kind {
+            Kind::Dense => self.target_right(i),
+            Kind::Edges => self.edge_right(i),
+        }
+    }
+
+    // The first entry that is not.
+    fn first_wrong(&self) -> Option<usize>
+        ensures { MatchOption result (AllRight self.now.header.kind self.now.file.now self.now.header) (FirstWrong (Right self.now.header.kind self.now.file.now self.now.header) self.now.header.entries) }
+    {
+        (0..self.header.entries).find(|&i| !self.entry_right(i))
+    }
+
+    // Whether each entry is as the rules of its kind say.
+    pub(crate) fn check_entries(&self) -> Result<(), EntryFault>
+        ensures { MatchResult result (λ _. AllRight self.now.header.kind self.now.file.now self.now.header) (λ e. (i : ℕ) × FirstWrong (Right self.now.header.kind self.now.file.now self.now.header) self.now.header.entries i × (e.place ≡ entry_place self.now.header.kind self.now.header i)) }
+    {
+        match self.first_wrong() {
+            None => Ok(()),
+            Some(i) => Err(EntryFault {
+                place: self.entry_place(i),
+            }),
+        }
+    }
+
+    // Whether each verdict byte is one.
+    pub(crate) fn check_verdicts<V: Verdict>(&self) -> Result<(), VerdictFault>
+        ensures { MatchResult result (λ _. (s : ℕ) → s < self.now.header.states → Reads V.Verdict.reads self.now.file.now self.now.header s) (λ e. (s : ℕ) × FirstWrong (Reads V.Verdict.reads self.now.file.now self.now.header) self.now.header.states s × (e.place ≡ verdict_place self.now.header s)) }
+    {
+        let begin = self.header.verdicts;
+        let end = begin + self.header.states;
+        match self.file[begin..end]
+            .iter()
+            .position(|byte| V::read(*byte).is_none())
+        {
+            None => Ok(()),
+            Some(s) => Err(VerdictFault { place: begin + s }),
+        }
+    }
+}
+
+fn in_table(h: &Header, e: &Edge) -> bool
+    ensures { IsTrue result ↔ InTable h.now e.now }
+{
+    e.state < h.states && e.target < h.states && e.first <= e.last && e.last < h.letters
+}
+
+fn rises(d: &Edge, e: &Edge) -> bool
+    ensures { IsTrue result ↔ Rises d.now e.now }
+{
+    d.state < e.state || d.state == e.state && d.last < e.first
+}
