@@ -6,3 +6,4 @@ pub mod Words
 pub mod ReleaseLaws
 pub mod ByByte
 pub mod YesNoLaws
+pub mod ClosedRule

@@ -13,10 +13,9 @@ pub trait Automaton {
     /// The five things that the automaton means.
     ghost meaning: { Self → Meaning Self.V };
 
-    /// The number of states. Whoever asks it learns too that the meaning is sound.
+    /// The number of states.
     fn states(&self) -> usize
-        ensures count { result ≡ (meaning self.now).n }
-        ensures sound { Sound Self.V.Verdict.closing (meaning self.now) };
+        ensures { result ≡ (meaning self.now).n };
 
     /// The number of letters.
     fn letters(&self) -> usize
@@ -30,4 +29,7 @@ pub trait Automaton {
 
     fn verdict(&self, state: usize) -> Self::V
         ensures { result ≡ (meaning self.now).verdict state };
+
+    /// The meaning of every automaton is sound.
+    ghost sound: { (rule : Self) → Sound Self.V.Verdict.closing (meaning rule) };
 }

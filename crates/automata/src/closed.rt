@@ -1,4 +1,5 @@
 ghost use Rattle.automata.specs.Meaning.{closed_rule};
+ghost use Rattle.automata.specs.ClosedRule.{closed_sound};
 
 use crate::automaton::Automaton;
 use crate::verdict::Verdict;
@@ -26,6 +27,8 @@ impl<V: Verdict> Automaton for ClosedRule<V> {
     type V = V;
 
     ghost meaning = { λ _. closed_rule V.Verdict.closing };
+
+    ghost sound = { λ _. closed_sound V.Verdict.closing };
 
     fn states(&self) -> usize {
         COUNT

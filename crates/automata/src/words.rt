@@ -16,7 +16,6 @@ pub fn follow_word<A: Automaton>(rule: &A, word: &[u8]) -> Result<usize, NoLette
     ensures ends { MatchResult result (λ s. Word (A.meaning rule.now).k word.now × (s ≡ follow (A.meaning rule.now) (A.meaning rule.now).start word.now)) (λ e. FirstForeign (A.meaning rule.now).k word.now e.index e.letter) }
     ensures reached { IfOk result (λ s. Reachable (A.meaning rule.now) s × (s < (A.meaning rule.now).n)) }
 {
-    let _sound = rule.states();
     let letters = rule.letters();
     let mut state = rule.start();
     for (index, letter) in word.iter().enumerate() {

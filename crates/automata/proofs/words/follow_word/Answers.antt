@@ -15,7 +15,7 @@ pub returns : goal.returns
 returns g c =
     let m = g.A.Automaton.meaning c.args.rule.now in
     let w = c.args.word.now in
-    let sound = c.states-sound.ensures.sound in
+    let sound = g.met.A.Automaton.sound c.args.rule.now in
     let letters = subst (λ (k : ℕ). Word k w) c.letters-letters.ensures (letters_word c.letters-letters.result w c.loop-index.index c.loop-index-test.false c.loop-index.invariant.0) in
     let is = follow_end m m.start w c.loop-index.index c.loop-index.state c.loop-index-test.false c.loop-index.invariant.1 in
     record {
