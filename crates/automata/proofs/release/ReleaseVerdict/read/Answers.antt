@@ -1,7 +1,7 @@
 use Rattle.std.proofs.Common.{◌≡◌, ◌%◌, rules, sym, refl, arith}
 use Rattle.automata.specs.Release.{decision_number}
 use Rattle.automata.specs.ReleaseLaws.{read_is}
-use Rattle.automata.proofs.release.answers.ReleaseVerdict.read.Goals as goal
+use Rattle.automata.proofs.release.ReleaseVerdict.read.Goals as goal
 
 pub returns-clause-value : goal.returns-clause-value
 returns-clause-value c =
