@@ -3,7 +3,11 @@ ghost use Rattle.std.specs.Prelude.{◌≡◌, ◌++◌, Some, codes, decimal};
 ghost use Rattle.ruleformat.specs.declared.fault.FileFault.TheVariants as fault;
 ghost use Rattle.ruleformat.specs.Numbers.{number_of, place_of};
 
+use std::error::Error;
 use std::fmt;
+
+// Kept: the next two types are alike, and each says which refusal it becomes; one type would need a
+// tag, and a match on it.
 
 /// The first wrong target or edge, by its byte place.
 #[derive(Clone, Copy, PartialEq, Eq, Debug)]
@@ -35,6 +39,8 @@ pub enum FileFault {
 }
 
 impl FileFault {
+    // Kept: a variant with a place has no number to cast to; these are the numbers that are printed.
+
     /// The refusal's number, from 1 to 6.
     pub fn number(&self) -> u8
         ensures { result ≡ number_of self.now }
@@ -71,6 +77,8 @@ impl fmt::Display for FileFault {
         write!(f, "refused {} at {}", self.number(), self.place())
     }
 }
+
+impl Error for FileFault {}
 
 impl From<EntryFault> for FileFault {
     ghost from_gives = { λ e r. r ≡ fault.Entry e.place };
