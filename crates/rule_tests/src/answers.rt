@@ -33,38 +33,40 @@ const CLOSED: Table<'static> = Table {
 
 // The state's targets and verdict are those, and the letters beyond lead to 0.
 fn has_row<A: Automaton>(rule: &A, state: usize, targets: &[usize], says: u8) -> bool {
-    let mut beyond = [targets.len(), 64, 256, usize::MAX].into_iter();
-    targets
-        .iter()
-        .enumerate()
-        .all(|(letter, target)| rule.next(state, letter) == *target)
-        && beyond.all(|letter| rule.next(state, letter) == 0)
-        && rule.verdict(state).byte() == says
+    rule.verdict(state).byte() == says
+        && targets
+            .iter()
+            .enumerate()
+            .all(|(letter, target)| rule.next(state, letter) == *target)
+        && [targets.len(), 64, 256, usize::MAX]
+            .iter()
+            .all(|letter| rule.next(state, *letter) == 0)
 }
 
 // The automaton answers by the table, and for states beyond it with 0 and the closing verdict.
-fn means<A: Automaton>(rule: &A, table: &Table<'_>) -> bool {
+fn means<A: Automaton>(rule: &A, table: Table<'_>) -> bool {
     let states = table.rows.len();
-    let mut beyond = [states, 128, 65536, usize::MAX].into_iter();
     (rule.states(), rule.letters(), rule.start()) == (states, table.letters, table.start)
         && table.rows.iter().enumerate().all(|(state, (targets, says))| {
             targets.len() == table.letters && has_row(rule, state, targets, *says)
         })
-        && beyond.all(|s| rule.next(s, 0) == 0 && rule.verdict(s).same(&A::V::closing()))
+        && [states, 128, 65536, usize::MAX].iter().all(|s| {
+            rule.next(*s, 0) == 0 && rule.verdict(*s).same(&A::V::closing())
+        })
 }
 
 // The file is of that kind and means that table, also for a reader of its kind alone, and is closed for a reader of the
 // other kind.
-fn file_means<V: Verdict>(kind: Kind, file: &[u8], table: Table<'static>) -> bool {
+fn file_means<V: Verdict>(kind: Kind, file: &[u8], table: Table<'_>) -> bool {
     let either = RuleFile::<V>::make(file);
     let (dense, edges) = match kind {
         Kind::Dense => (table, CLOSED),
         Kind::Edges => (CLOSED, table),
     };
     either.kind() == kind
-        && means(&either, &table)
-        && means(&DenseTable::<V>::make(file), &dense)
-        && means(&EdgeList::<V>::make(file), &edges)
+        && means(&either, table)
+        && means(&DenseTable::<V>::make(file), dense)
+        && means(&EdgeList::<V>::make(file), edges)
 }
 
 // Both worked files mean the worked rule. Notes never matter, even if they are a file themselves.

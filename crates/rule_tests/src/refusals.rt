@@ -12,7 +12,7 @@ const NUMBERS: [(FileFault, u8); 6] = [
 
 #[test]
 fn numbers(rt: HostRuntime) {
-    for (fault, number) in &NUMBERS {
-        assert_eq!(rt; fault.number(), *number);
+    for (fault, number) in NUMBERS {
+        assert_eq!(rt; fault.number(), number);
     }
 }

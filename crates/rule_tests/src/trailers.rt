@@ -63,8 +63,8 @@ const LENGTHS: [(&[u8], Option<FileFault>); 7] = [
 
 #[test]
 fn lengths(rt: HostRuntime) {
-    for (file, fault) in &LENGTHS {
-        assert_eq!(rt; check::<YesNo>(file, None).err(), *fault);
+    for (file, fault) in LENGTHS {
+        assert_eq!(rt; check::<YesNo>(file, None).err(), fault);
     }
 }
 
