@@ -1,7 +1,6 @@
 use crate::failure::Failure;
 use crate::heading::Heading;
 use crate::session::follow_input;
-use automata::verdict::Verdict;
 use automata::yes_no::YesNo;
 use rulecheck::check::check;
 use rulefile::rule_file::RuleFile;
