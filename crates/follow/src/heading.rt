@@ -12,9 +12,10 @@ impl fmt::Display for Heading {
     ghost output = { λ h. Some (codes "rule: " ++ (kind_name h.0.kind ++ (codes ", " ++ (decimal h.0.states ++ (codes " states, " ++ (decimal h.0.letters ++ codes " letters")))))) };
 
     fn fmt<W: fmt::Write>(&self, f: &mut fmt::Formatter<W>) -> fmt::Result {
-        let kind = self.0.kind;
-        let states = self.0.states;
-        let letters = self.0.letters;
-        write!(f, "rule: {kind}, {states} states, {letters} letters")
+        write!(
+            f,
+            "rule: {}, {} states, {} letters",
+            self.0.kind, self.0.states, self.0.letters
+        )
     }
 }

@@ -9,10 +9,11 @@ mod session;
 use std::process::ExitCode;
 
 fn main(rt: HostRuntime) -> ExitCode {
-    let ended = program::run(&rt);
-    failure::tell(&rt, &ended);
-    match ended {
+    match program::run(&rt) {
         Ok(()) => ExitCode::SUCCESS,
-        Err(_) => ExitCode::FAILURE,
+        Err(failure) => {
+            failure.tell(&rt);
+            ExitCode::FAILURE
+        }
     }
 }

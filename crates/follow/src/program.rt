@@ -1,8 +1,6 @@
 use crate::failure::Failure;
 use crate::heading::Heading;
 use crate::session::follow_input;
-use automata::automaton::Automaton;
-use automata::verdict::Verdict;
 use automata::yes_no::YesNo;
 use rulecheck::check::check;
 use rulefile::rule_file::RuleFile;
@@ -20,17 +18,8 @@ fn rule_path(rt: &HostRuntime) -> Result<String, Failure> {
 /// Checks the rule file and follows each line of the standard input through it.
 pub(crate) fn run(rt: &HostRuntime) -> Result<(), Failure> {
     let path = rule_path(rt)?;
-    let file = match fs::read(rt, path.as_str()) {
-        Ok(bytes) => bytes,
-        Err(error) => return Err(Failure::File { path, error }),
-    };
-    let header = match check::<YesNo>(file.as_slice(), None) {
-        Ok(header) => header,
-        Err(fault) => return Err(Failure::Refused(fault)),
-    };
-    let heading = Heading(header);
-    println!(rt; "{heading}")?;
-    let rule = RuleFile::<YesNo>::make(file.as_slice());
-    follow_input(rt, &rule)?;
-    Ok(())
+    let file = fs::read(rt, path.as_str()).map_err(|error| Failure::File { path, error })?;
+    let header = check::<YesNo>(&file, None)?;
+    println!(rt; "{}", Heading(header))?;
+    follow_input(rt, &RuleFile::<YesNo>::make(&file))
 }

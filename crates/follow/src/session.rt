@@ -1,3 +1,4 @@
+use crate::failure::Failure;
 use automata::automaton::Automaton;
 use automata::yes_no::YesNo;
 use histories::step::next_report;
@@ -8,12 +9,12 @@ use std::io::{BufRead, BufReader, BufWriter, Write};
 pub(crate) fn follow_input<A: Automaton<V = YesNo>>(
     rt: &HostRuntime,
     rule: &A,
-) -> anyhow::Result<()> {
+) -> Result<(), Failure> {
     let mut out = BufWriter::new(rt.alloc(), rt.stdout())?;
     let mut tally = Tally::new();
     for line in BufReader::new(rt.alloc(), rt.stdin())?.split(rt.alloc(), b'\n') {
         let line = line?;
-        let report = next_report(rt.alloc(), rule, line.as_slice(), &mut tally)?;
+        let report = next_report(rt.alloc(), rule, &line, &mut tally)?;
         writeln!(out, "{report}")?;
     }
     writeln!(out, "{tally}")?;

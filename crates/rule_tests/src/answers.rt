@@ -8,7 +8,7 @@ use rulefile::dense::DenseTable;
 use rulefile::edges::EdgeList;
 use rulefile::rule_file::RuleFile;
 use ruleformat::format::Kind;
-use std::alloc::{AllocError, Global};
+use std::process::Abort;
 use std::test::Fail;
 
 /// What an automaton is to mean: a start, a number of letters, and for each state its targets and its verdict's byte.
@@ -33,70 +33,52 @@ const CLOSED: Table<'static> = Table {
 
 // The state's targets and verdict are those, and the letters beyond lead to 0.
 fn has_row<A: Automaton>(rule: &A, state: usize, targets: &[usize], says: u8) -> bool {
-    for (letter, target) in targets.iter().enumerate() {
-        if rule.next(state, letter) != *target {
-            return false;
-        }
-    }
-    for beyond in [targets.len(), 64, 256, usize::MAX] {
-        if rule.next(state, beyond) != 0 {
-            return false;
-        }
-    }
     rule.verdict(state).byte() == says
+        && targets
+            .iter()
+            .enumerate()
+            .all(|(letter, target)| rule.next(state, letter) == *target)
+        && [targets.len(), 64, 256, usize::MAX]
+            .iter()
+            .all(|letter| rule.next(state, *letter) == 0)
 }
 
 // The automaton answers by the table, and for states beyond it with 0 and the closing verdict.
-fn means<A: Automaton>(rule: &A, table: &Table<'_>) -> bool {
+fn means<A: Automaton>(rule: &A, table: Table<'_>) -> bool {
     let states = table.rows.len();
-    if rule.states() != states || rule.letters() != table.letters || rule.start() != table.start {
-        return false;
-    }
-    for (state, (targets, says)) in table.rows.iter().enumerate() {
-        if targets.len() != table.letters || !has_row(rule, state, targets, *says) {
-            return false;
-        }
-    }
-    for beyond in [states, 128, 65536, usize::MAX] {
-        if rule.next(beyond, 0) != 0 || !rule.verdict(beyond).same(&A::V::closing()) {
-            return false;
-        }
-    }
-    true
+    (rule.states(), rule.letters(), rule.start()) == (states, table.letters, table.start)
+        && table.rows.iter().enumerate().all(|(state, (targets, says))| {
+            targets.len() == table.letters && has_row(rule, state, targets, *says)
+        })
+        && [states, 128, 65536, usize::MAX].iter().all(|s| {
+            rule.next(*s, 0) == 0 && rule.verdict(*s).same(&A::V::closing())
+        })
 }
 
-// The dense file means that table, also read as a file of either kind, and is closed for a reader of edge lists.
-fn dense_means<V: Verdict>(file: &[u8], table: &Table<'static>) -> bool {
+// The file is of that kind and means that table, also for a reader of its kind alone, and is closed for a reader of the
+// other kind.
+fn file_means<V: Verdict>(kind: Kind, file: &[u8], table: Table<'_>) -> bool {
     let either = RuleFile::<V>::make(file);
-    either.kind() == Kind::Dense
+    let (dense, edges) = match kind {
+        Kind::Dense => (table, CLOSED),
+        Kind::Edges => (CLOSED, table),
+    };
+    either.kind() == kind
         && means(&either, table)
-        && means(&DenseTable::<V>::make(file), table)
-        && means(&EdgeList::<V>::make(file), &CLOSED)
+        && means(&DenseTable::<V>::make(file), dense)
+        && means(&EdgeList::<V>::make(file), edges)
 }
 
-// The edge list means that table, also read as a file of either kind, and is closed for a reader of dense files.
-fn edges_mean<V: Verdict>(file: &[u8], table: &Table<'static>) -> bool {
-    let either = RuleFile::<V>::make(file);
-    either.kind() == Kind::Edges
-        && means(&either, table)
-        && means(&EdgeList::<V>::make(file), table)
-        && means(&DenseTable::<V>::make(file), &CLOSED)
-}
-
-// Both worked files mean the worked rule behind the notes.
-fn worked_behind(heap: Global, notes: &[u8]) -> Result<bool, AllocError> {
-    let dense = changed(heap, notes, DENSE, &[])?;
-    let edges = changed(heap, notes, EDGES, &[])?;
-    Ok(dense_means::<YesNo>(&dense, &WORKED) && edges_mean::<YesNo>(&edges, &WORKED))
-}
-
-// Notes never matter, even if they are a file themselves.
+// Both worked files mean the worked rule. Notes never matter, even if they are a file themselves.
 #[test]
 fn worked_files(rt: HostRuntime) -> Result<(), Fail> {
-    assert!(rt; worked_behind(rt.alloc(), &[])?);
-    assert!(rt; worked_behind(rt.alloc(), &NOTES)?);
-    assert!(rt; worked_behind(rt.alloc(), DENSE)?);
-    assert!(rt; worked_behind(rt.alloc(), EDGES)?);
+    let notes: [&[u8]; 4] = [&[], &NOTES, DENSE, EDGES];
+    for notes in notes {
+        let dense = changed(rt.alloc(), notes, DENSE, &[])?;
+        assert!(rt; file_means::<YesNo>(Kind::Dense, &dense, WORKED));
+        let edges = changed(rt.alloc(), notes, EDGES, &[])?;
+        assert!(rt; file_means::<YesNo>(Kind::Edges, &edges, WORKED));
+    }
     Ok(())
 }
 
@@ -110,7 +92,7 @@ const RANGES: Table<'static> = Table {
 #[test]
 fn ranges(rt: HostRuntime) -> Result<(), Fail> {
     let file = edge_file(rt.alloc(), &[[0, 0, 1, 1], [0, 3, 3, 2], [2, 1, 2, 0]])?;
-    assert!(rt; edges_mean::<YesNo>(&file, &RANGES));
+    assert!(rt; file_means::<YesNo>(Kind::Edges, &file, RANGES));
     Ok(())
 }
 
@@ -135,14 +117,14 @@ fn releases(rt: HostRuntime) -> Result<(), Fail> {
         DENSE,
         &[(12, 6), (13, 254), (14, 253), (27, 2)],
     )?;
-    assert!(rt; dense_means::<Release>(&dense, &RELEASES));
+    assert!(rt; file_means::<Release>(Kind::Dense, &dense, RELEASES));
     let edges = changed(
         rt.alloc(),
         &[],
         EDGES,
         &[(24, 6), (25, 254), (26, 253), (39, 2), (27, 3)],
     )?;
-    assert!(rt; edges_mean::<Release>(&edges, &STAYS));
+    assert!(rt; file_means::<Release>(Kind::Edges, &edges, STAYS));
     Ok(())
 }
 
@@ -152,40 +134,42 @@ const DENSE_FAULTS: [(usize, u8); 5] = [(30, 0), (27, 3), (19, 2), (10, 3), (14,
 const EDGES_FAULTS: [(usize, u8); 5] = [(41, 3), (37, 65), (27, 26), (8, 0), (25, 255)];
 
 // With each of the changes the file is the closed rule for every reader.
-fn closed(heap: Global, file: &[u8], changes: &[(usize, u8)]) -> Result<bool, AllocError> {
+fn closed(
+    rt: &(impl Abort + AllocGlobal),
+    file: &[u8],
+    changes: &[(usize, u8)],
+) -> Result<(), Fail> {
     for change in changes {
-        let bytes = changed(heap, &NOTES, file, &[*change])?;
-        if !dense_means::<YesNo>(&bytes, &CLOSED) || !dense_means::<Release>(&bytes, &CLOSED) {
-            return Ok(false);
-        }
+        let bytes = changed(rt.alloc(), &NOTES, file, &[*change])?;
+        assert!(rt;
+            file_means::<YesNo>(Kind::Dense, &bytes, CLOSED),
+            "{change:?}"
+        );
+        assert!(rt;
+            file_means::<Release>(Kind::Dense, &bytes, CLOSED),
+            "{change:?}"
+        );
     }
-    Ok(true)
+    Ok(())
 }
 
 #[test]
 fn refused_is_closed(rt: HostRuntime) -> Result<(), Fail> {
-    assert!(rt; dense_means::<YesNo>(&[1; 15], &CLOSED));
-    assert!(rt; closed(rt.alloc(), DENSE, &DENSE_FAULTS)?);
-    assert!(rt; closed(rt.alloc(), EDGES, &EDGES_FAULTS)?);
-    Ok(())
+    assert!(rt; file_means::<YesNo>(Kind::Dense, &[1; 15], CLOSED));
+    closed(&rt, DENSE, &DENSE_FAULTS)?;
+    closed(&rt, EDGES, &EDGES_FAULTS)
 }
 
 // The answers to a file of 128 states and 64 letters.
 fn full<A: Automaton>(rule: &A) -> bool {
-    for s in 0..128usize {
-        for a in 0..64usize {
-            if rule.next(s, a) != (s + a) % 128 {
-                return false;
-            }
-        }
-        if rule.verdict(s).byte() as usize != s % 2 {
-            return false;
-        }
-    }
     rule.states() == 128
         && rule.letters() == 64
         && rule.next(128, 0) == 0
         && rule.next(127, 64) == 0
+        && (0..128).all(|s| {
+            rule.verdict(s).byte() as usize == s % 2
+                && (0..64).all(|a| rule.next(s, a) == s.wrapping_add(a) % 128)
+        })
 }
 
 // 64 edges of one letter each in every state, and the same as a dense table.

@@ -1,8 +1,9 @@
 // The worked files, files built from their parts, and the comparison with what the check answers.
 use automata::verdict::Verdict;
-use rulecheck::check;
+use rulecheck::check::check;
+use ruleformat::fault::FileFault;
 use ruleformat::format::Kind;
-use std::alloc::{AllocError, Global};
+use std::alloc::Global;
 use std::process::Abort;
 use std::test::Fail;
 
@@ -27,13 +28,12 @@ pub fn changed(
     notes: &[u8],
     file: &[u8],
     changes: &[(usize, u8)],
-) -> Result<Vec<u8>, AllocError> {
+) -> Result<Vec<u8>, Fail> {
     let mut bytes = notes.to_vec(heap)?;
     bytes.extend_from_slice(file)?;
     for (place, byte) in changes {
-        if let Some(b) = bytes.get_mut(place.wrapping_add(notes.len())) {
-            *b = *byte;
-        }
+        let place = place.wrapping_add(notes.len());
+        *bytes.get_mut(place).ok_or("a change behind the file")? = *byte;
     }
     Ok(bytes)
 }
@@ -46,27 +46,24 @@ pub fn built(
     letters: u8,
     entries: &[u8],
     verdicts: &[u8],
-) -> Result<Vec<u8>, AllocError> {
-    let mut distance = u32::from(states);
-    for _ in entries {
-        distance = distance.wrapping_add(1);
-    }
+) -> Result<Vec<u8>, Fail> {
+    let distance = u32::try_from(entries.len())?.wrapping_add(u32::from(states));
+    let kind = match kind {
+        Kind::Dense => 1,
+        Kind::Edges => 2,
+    };
     let mut file = entries.to_vec(heap)?;
     file.extend_from_slice(verdicts)?;
     file.extend_from_slice(&distance.to_le_bytes())?;
     file.extend_from_slice(&u32::from(states).to_le_bytes())?;
     file.extend_from_slice(&states.to_le_bytes())?;
-    let kind = match kind {
-        Kind::Dense => 1,
-        Kind::Edges => 2,
-    };
     file.extend_from_slice(&[letters, 0, 0, 0, kind, 1])?;
     Ok(file)
 }
 
 /// An edge list of 3 states and 4 letters, with verdicts yes, yes, no. An edge is its state, first letter, last letter
 /// and target.
-pub fn edge_file(heap: Global, edges: &[[u8; 4]]) -> Result<Vec<u8>, AllocError> {
+pub fn edge_file(heap: Global, edges: &[[u8; 4]]) -> Result<Vec<u8>, Fail> {
     let mut entries = Vec::new(heap);
     for [state, first, last, target] in edges {
         entries.extend_from_slice(&[*state, 0, *first, *last, *target, 0])?;
@@ -76,17 +73,12 @@ pub fn edge_file(heap: Global, edges: &[[u8; 4]]) -> Result<Vec<u8>, AllocError>
 
 /// A file in which state s leads by letter a to the remainder of s + a by 128, each by an edge of its own where it is an
 /// edge list. Even states say no, odd ones yes.
-pub fn full_file(
-    heap: Global,
-    kind: Kind,
-    states: u16,
-    letters: u8,
-) -> Result<Vec<u8>, AllocError> {
+pub fn full_file(heap: Global, kind: Kind, states: u16, letters: u8) -> Result<Vec<u8>, Fail> {
     let mut entries = Vec::new(heap);
     let mut verdicts = Vec::new(heap);
     for s in 0..states {
+        let [low, high] = s.to_le_bytes();
         for a in 0..letters {
-            let [low, high] = s.to_le_bytes();
             if kind == Kind::Edges {
                 entries.extend_from_slice(&[low, high, a, a])?;
             }
@@ -97,48 +89,35 @@ pub fn full_file(
     built(heap, kind, states, letters, &entries, &verdicts)
 }
 
-/// The number and the place of the file's fault, or none where the file passes.
-pub fn fault<V: Verdict>(file: &[u8], wanted: Option<Kind>) -> Option<(u8, usize)> {
-    match check::check::<V>(file, wanted) {
-        Ok(_) => None,
-        Err(fault) => Some((fault.number(), fault.place())),
-    }
-}
-
-/// The fault of a file behind notes, its place counted from behind the notes.
-pub fn fault_behind<V: Verdict>(
-    heap: Global,
-    notes: &[u8],
+/// The file with the changes has that fault, without notes and behind them, where the fault's place moves with the file.
+pub fn assert_fault<V: Verdict>(
+    rt: &(impl Abort + AllocGlobal),
     file: &[u8],
     changes: &[(usize, u8)],
-) -> Result<Option<(u8, usize)>, AllocError> {
-    let bytes = changed(heap, notes, file, changes)?;
-    match fault::<V>(&bytes, None) {
-        Some((number, place)) => Ok(Some((number, place.wrapping_sub(notes.len())))),
-        None => Ok(None),
+    fault: Option<FileFault>,
+    case: usize,
+) -> Result<(), Fail> {
+    let notes: [&[u8]; 2] = [&[], &NOTES];
+    for notes in notes {
+        let bytes = changed(rt.alloc(), notes, file, changes)?;
+        let found = check::<V>(&bytes, None).err();
+        assert_eq!(rt;
+            found.map(|f| (f.number(), f.place())),
+            fault.map(|f| (f.number(), f.place().wrapping_add(notes.len()))),
+            "case {case}"
+        );
     }
+    Ok(())
 }
 
-/// With each of the changes the file gets its answer, behind notes and without.
-pub fn answered<V: Verdict>(
-    rt: &impl Abort,
-    heap: Global,
+/// With each of the changes the file has that fault, or none.
+pub fn assert_faults<V: Verdict>(
+    rt: &(impl Abort + AllocGlobal),
     file: &[u8],
-    cases: &[(Changes, Option<(u8, usize)>)],
+    cases: &[(Changes, Option<FileFault>)],
 ) -> Result<(), Fail> {
-    for (index, (changes, answer)) in cases.iter().enumerate() {
-        assert_eq!(rt;
-            fault_behind::<V>(heap, &[], file, changes)?,
-            *answer,
-            "{}",
-            index
-        );
-        assert_eq!(rt;
-            fault_behind::<V>(heap, &NOTES, file, changes)?,
-            *answer,
-            "{}",
-            index
-        );
+    for (case, (changes, fault)) in cases.iter().enumerate() {
+        assert_fault::<V>(rt, file, changes, *fault, case)?;
     }
     Ok(())
 }

@@ -8,6 +8,8 @@ mod drafts;
 #[cfg(test)]
 mod parts;
 #[cfg(test)]
+mod refusals;
+#[cfg(test)]
 mod trailers;
 #[cfg(test)]
 mod verdicts;

@@ -19,9 +19,9 @@ const WORDS: [(&[u8], usize, YesNo); 6] = [
 #[test]
 fn followed(rt: HostRuntime) -> Result<(), Fail> {
     let rule = DenseTable::<YesNo>::make(DENSE);
-    for (word, state, says) in &WORDS {
-        assert_eq!(rt; follow_word(&rule, word)?, *state);
-        assert_eq!(rt; word_verdict(&rule, word)?, *says);
+    for (word, state, says) in WORDS {
+        assert_eq!(rt; follow_word(&rule, word)?, state);
+        assert_eq!(rt; word_verdict(&rule, word)?, says);
     }
     Ok(())
 }
@@ -36,12 +36,8 @@ const FOREIGN: [(&[u8], usize, u8); 3] = [
 #[test]
 fn no_letters(rt: HostRuntime) {
     let rule = DenseTable::<YesNo>::make(DENSE);
-    for (word, index, letter) in &FOREIGN {
-        let answer = Err(NoLetter {
-            index: *index,
-            letter: *letter,
-        });
-        assert_eq!(rt; word_verdict(&rule, word), answer);
+    for (word, index, letter) in FOREIGN {
+        assert_eq!(rt; word_verdict(&rule, word), Err(NoLetter { index, letter }));
     }
 }
 
