@@ -48,16 +48,12 @@ pub fn built(
     verdicts: &[u8],
 ) -> Result<Vec<u8>, Fail> {
     let distance = u32::try_from(entries.len())?.wrapping_add(u32::from(states));
-    let kind = match kind {
-        Kind::Dense => 1,
-        Kind::Edges => 2,
-    };
     let mut file = entries.to_vec(heap)?;
     file.extend_from_slice(verdicts)?;
     file.extend_from_slice(&distance.to_le_bytes())?;
     file.extend_from_slice(&u32::from(states).to_le_bytes())?;
     file.extend_from_slice(&states.to_le_bytes())?;
-    file.extend_from_slice(&[letters, 0, 0, 0, kind, 1])?;
+    file.extend_from_slice(&[letters, 0, 0, 0, u8::from(kind), 1])?;
     Ok(file)
 }
 
