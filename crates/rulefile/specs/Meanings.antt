@@ -1,18 +1,15 @@
 -- What the automata over a file mean, by its bytes.
 use Rattle.std.specs.Prelude.{ℕ, Option}
 use Rattle.automata.specs.Meaning.{Meaning}
-use Rattle.ruleformat.specs.Tables.{or_closed, dense_table, edge_table}
-use Rattle.ruleformat.specs.Makes.{by_kind}
-use Rattle.rulefile.specs.declared.dense.DenseTable.{DenseTable}
-use Rattle.rulefile.specs.declared.edges.EdgeList.{EdgeList}
-use Rattle.rulefile.specs.declared.rule_file.RuleFile.{RuleFile}
+use Rattle.ruleformat.specs.Tables.{or_closed}
+use Rattle.ruleformat.specs.Makes.{table_of}
+use Rattle.rulefile.specs.declared.good_file.GoodFile.{GoodFile}
+use Rattle.rulefile.specs.declared.table.FileTable.{FileTable}
 
-abbrev pub dense_meaning : {V : Type 0} → (ℕ → Option V) → V → DenseTable V → Meaning V
-dense_meaning reads closing t = or_closed closing t.header (dense_table reads closing t.file.now)
+-- a good file means the table of its kind
+abbrev pub good_meaning : {V : Type 0} → (ℕ → Option V) → V → GoodFile → Meaning V
+good_meaning reads closing g = table_of g.header.kind reads closing g.file.now g.header
 
-abbrev pub edge_meaning : {V : Type 0} → (ℕ → Option V) → V → EdgeList V → Meaning V
-edge_meaning reads closing t = or_closed closing t.header (edge_table reads closing t.file.now)
-
--- a file of either kind means what the table of its kind does
-abbrev pub file_meaning : {V : Type 0} → (ℕ → Option V) → V → RuleFile V → Meaning V
-file_meaning reads closing r = by_kind r.kind (dense_meaning reads closing r.dense) (edge_meaning reads closing r.edges)
+-- a table means what its file does, and the closed rule where it has none
+abbrev pub table_meaning : {T V : Type 0} → (ℕ → Option V) → V → (T → GoodFile) → FileTable T V → Meaning V
+table_meaning reads closing file_of t = or_closed closing t.transitions (λ x. good_meaning reads closing (file_of x))
