@@ -29,6 +29,13 @@ impl<'a, T: Transitions<'a>, V: Verdict> FileTable<'a, T, V> {
             Ok(good) => Some(T::of(good)),
             Err(_) => None,
         };
+        FileTable::new(transitions)
+    }
+
+    // The automaton of those transitions, or the closed rule.
+    pub(crate) fn new(transitions: Option<T>) -> FileTable<'a, T, V>
+        ensures { result.transitions ≡ transitions }
+    {
         FileTable {
             transitions,
             says: PhantomData,

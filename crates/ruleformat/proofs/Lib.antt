@@ -2,7 +2,6 @@ pub mod Unique
 pub mod Rising
 pub mod Finding
 pub mod TableLaws
-pub mod Makings
 pub mod InFront
 pub mod Capped
 pub mod Chunks
