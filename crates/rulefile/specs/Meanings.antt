@@ -1,18 +1,36 @@
 -- What the automata over a file mean, by its bytes.
 use Rattle.std.specs.Prelude.{ℕ, Option}
 use Rattle.automata.specs.Meaning.{Meaning}
-use Rattle.ruleformat.specs.Tables.{or_closed, dense_table, edge_table}
-use Rattle.ruleformat.specs.Makes.{by_kind}
-use Rattle.rulefile.specs.declared.dense.DenseTable.{DenseTable}
-use Rattle.rulefile.specs.declared.edges.EdgeList.{EdgeList}
+use Rattle.ruleformat.specs.declared.format.Kind.{Kind}
+use Rattle.ruleformat.specs.declared.format.Kind.TheVariants as kinds
+use Rattle.ruleformat.specs.Tables.{or_closed}
+use Rattle.ruleformat.specs.Makes.{table_of}
+use Rattle.rulefile.specs.declared.good_file.GoodFile.{GoodFile}
+use Rattle.rulefile.specs.declared.table.FileTable.{FileTable}
+use Rattle.rulefile.specs.declared.dense.Dense.{Dense}
+use Rattle.rulefile.specs.declared.edges.Edges.{Edges}
 use Rattle.rulefile.specs.declared.rule_file.RuleFile.{RuleFile}
+use Rattle.rulefile.specs.declared.rule_file.RuleFile.TheVariants as file
 
-abbrev pub dense_meaning : {V : Type 0} → (ℕ → Option V) → V → DenseTable V → Meaning V
-dense_meaning reads closing t = or_closed closing t.header (dense_table reads closing t.file.now)
+-- a good file means the table of its kind
+abbrev pub good_meaning : {V : Type 0} → (ℕ → Option V) → V → GoodFile → Meaning V
+good_meaning reads closing g = table_of g.header.kind reads closing g.file.now g.header
 
-abbrev pub edge_meaning : {V : Type 0} → (ℕ → Option V) → V → EdgeList V → Meaning V
-edge_meaning reads closing t = or_closed closing t.header (edge_table reads closing t.file.now)
+-- a table means what its file does, and the closed rule where it has none
+abbrev pub table_meaning : {T V : Type 0} → (ℕ → Option V) → V → (T → GoodFile) → FileTable T V → Meaning V
+table_meaning reads closing file_of t = or_closed closing t.transitions (λ x. good_meaning reads closing (file_of x))
 
--- a file of either kind means what the table of its kind does
+abbrev pub dense_meaning : {V : Type 0} → (ℕ → Option V) → V → FileTable Dense V → Meaning V
+dense_meaning reads closing t = table_meaning reads closing (λ x. x.good) t
+
+abbrev pub edge_meaning : {V : Type 0} → (ℕ → Option V) → V → FileTable Edges V → Meaning V
+edge_meaning reads closing t = table_meaning reads closing (λ x. x.good) t
+
+-- a file of either kind means what its table does
 abbrev pub file_meaning : {V : Type 0} → (ℕ → Option V) → V → RuleFile V → Meaning V
-file_meaning reads closing r = by_kind r.kind (dense_meaning reads closing r.dense) (edge_meaning reads closing r.edges)
+file_meaning reads closing (file.Dense t) = dense_meaning reads closing t
+file_meaning reads closing (file.Edges t) = edge_meaning reads closing t
+
+abbrev pub kind_of : {V : Type 0} → RuleFile V → Kind
+kind_of (file.Dense t) = kinds.Dense
+kind_of (file.Edges t) = kinds.Edges

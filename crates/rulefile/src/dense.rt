@@ -1,25 +1,47 @@
-ghost use Rattle.std.specs.Prelude.{◌≡◌, ◌*◌, length, Some};
-ghost use Rattle.ruleformat.specs.declared.format.Header.{Header as TableHeader};
+ghost use Rattle.std.specs.Prelude.{◌≡◌};
 ghost use Rattle.ruleformat.specs.declared.format.Kind.TheVariants as kinds;
-ghost use Rattle.ruleformat.specs.Layout.{Closes};
-ghost use Rattle.ruleformat.specs.Faults.{AllRight};
-ghost use Rattle.ruleformat.specs.Tables.{InRanges};
 
-use ruleformat::format::Header;
-use std::marker::PhantomData;
+use crate::good_file::GoodFile;
+use crate::table::FileTable;
+use crate::transitions::Transitions;
+use ruleformat::format::Kind;
+use ruleformat::reading::two;
 
-/// The table of a file of the dense kind, with verdicts of `V`; the closed rule where the check
-/// refused the file, and there is no header.
+/// The automaton of a file of the dense kind, with verdicts of `V`; the closed rule where the
+/// check refused the file.
+pub type DenseTable<'a, V> = FileTable<'a, Dense<'a>, V>;
+
+/// The targets of a good file of the dense kind.
 #[derive(Drop)]
-pub struct DenseTable<'a, V> {
-    file: &'a [u8],
-    header: Option<Header>,
-    says: PhantomData<V>,
-    ghost ranged: { (h : TableHeader) → header ≡ Some h → InRanges h },
-    ghost closes: { (h : TableHeader) → header ≡ Some h → Closes (length file.now) kinds.Dense h },
-    ghost full: { (h : TableHeader) → header ≡ Some h → h.entries ≡ h.states * h.letters },
-    ghost targets: { (h : TableHeader) → header ≡ Some h → AllRight kinds.Dense file.now h },
+pub struct Dense<'a> {
+    good: GoodFile<'a>,
+    ghost kind: { good.header.kind ≡ kinds.Dense },
 }
 
-pub mod answers;
-pub mod make;
+impl<'a> Transitions<'a> for Dense<'a> {
+    ghost kind = { kinds.Dense };
+
+    ghost file_of = { λ t. t.good };
+
+    fn kind() -> Kind
+        ensures { result ≡ kinds.Dense }
+    {
+        Kind::Dense
+    }
+
+    fn of(good: GoodFile<'a>) -> Dense<'a>
+        requires { good.header.kind ≡ kinds.Dense }
+        ensures { result.good ≡ good.entry }
+    {
+        Dense { good }
+    }
+
+    fn good(&self) -> GoodFile<'a> {
+        self.good
+    }
+
+    fn next(&self, state: usize, letter: usize) -> usize {
+        let GoodFile { file, header, .. } = self.good;
+        two(file, header.transitions + 2 * (state * header.letters + letter))
+    }
+}

@@ -1,29 +1,77 @@
-ghost use Rattle.std.specs.Prelude.{◌≡◌, length, Some};
-ghost use Rattle.ruleformat.specs.declared.format.Header.{Header as TableHeader};
+ghost use Rattle.std.specs.Prelude.{◌≡◌, length};
 ghost use Rattle.ruleformat.specs.declared.format.Kind.TheVariants as kinds;
-ghost use Rattle.ruleformat.specs.Layout.{Closes};
-ghost use Rattle.ruleformat.specs.Faults.{AllRight};
-ghost use Rattle.ruleformat.specs.EdgeWords.{Indexed};
-ghost use Rattle.ruleformat.specs.Tables.{InRanges};
+ghost use Rattle.ruleformat.specs.EdgeWords.{Indexed, edge_bytes};
+ghost use Rattle.ruleformat.specs.Once.{Indexed-prop};
 
-use ruleformat::format::Header;
-use std::marker::PhantomData;
+use crate::good_file::GoodFile;
+use crate::table::FileTable;
+use crate::transitions::Transitions;
+use ruleformat::format::{Edge, Kind};
 
 /// The automaton of a file of the edge-list kind, with verdicts of `V`; the closed rule where the
-/// check refused the file, and there is no header. `firsts` has the index of each state's first
-/// edge, and behind the last state the number of all edges; it is made once.
+/// check refused the file.
+pub type EdgeList<'a, V> = FileTable<'a, Edges<'a>, V>;
+
+/// The edges of a good file of the edge-list kind, six bytes each. `firsts` has the index of each
+/// state's first edge, and behind the last state the number of all edges; it is made once.
 #[derive(Drop)]
-pub struct EdgeList<'a, V> {
-    file: &'a [u8],
-    header: Option<Header>,
+pub struct Edges<'a> {
+    good: GoodFile<'a>,
+    edges: &'a [[u8; 6]],
     firsts: [usize; 129],
-    says: PhantomData<V>,
-    ghost ranged: { (h : TableHeader) → header ≡ Some h → InRanges h },
-    ghost closes: { (h : TableHeader) → header ≡ Some h → Closes (length file.now) kinds.Edges h },
-    ghost edges: { (h : TableHeader) → header ≡ Some h → ∥ AllRight kinds.Edges file.now h ∥₁ },
-    ghost sized: { length firsts ≡ 129 },
-    ghost indexed: { (h : TableHeader) → header ≡ Some h → ∥ Indexed file.now h firsts ∥₁ },
+    ghost kind: { good.header.kind ≡ kinds.Edges },
+    ghost all: { edges.now ≡ edge_bytes good.file.now good.header },
+    ghost indexed: { Indexed good.file.now good.header firsts } by { Indexed-prop good.file.now good.header firsts },
 }
 
-pub mod answers;
-pub mod make;
+// The bytes of the edges, six each.
+fn edges_in<'a>(good: GoodFile<'a>) -> &'a [[u8; 6]]
+    requires { good.header.kind ≡ kinds.Edges }
+    ensures { result.now ≡ edge_bytes good.entry.file.now good.entry.header }
+{
+    let (edges, _) = good.file[good.header.transitions..good.header.verdicts].as_chunks();
+    edges
+}
+
+impl<'a> Transitions<'a> for Edges<'a> {
+    ghost kind = { kinds.Edges };
+
+    ghost file_of = { λ t. t.good };
+
+    fn kind() -> Kind
+        ensures { result ≡ kinds.Edges }
+    {
+        Kind::Edges
+    }
+
+    fn of(good: GoodFile<'a>) -> Edges<'a>
+        requires { good.header.kind ≡ kinds.Edges }
+        ensures { result.good ≡ good.entry }
+    {
+        let edges = edges_in(good);
+        let mut firsts = [0; 129];
+        for state in 0..good.header.states + 1 {
+            firsts[state] = edges.partition_point(|e| Edge::from(*e).state < state);
+        }
+        Edges {
+            good,
+            edges,
+            firsts,
+        }
+    }
+
+    fn good(&self) -> GoodFile<'a> {
+        self.good
+    }
+
+    // The edges of a state stand together, and their letters rise.
+    fn next(&self, state: usize, letter: usize) -> usize {
+        let of_state = &self.edges[self.firsts[state]..self.firsts[state + 1]];
+        let found = of_state.partition_point(|e| Edge::from(*e).last < letter);
+        let Some(bytes) = of_state.get(found) else {
+            return state;
+        };
+        let e = Edge::from(*bytes);
+        if e.first <= letter { e.target } else { state }
+    }
+}

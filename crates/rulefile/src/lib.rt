@@ -3,6 +3,7 @@
 
 pub mod dense;
 pub mod edges;
-mod halving;
+pub mod good_file;
 pub mod rule_file;
-mod verdicts;
+pub mod table;
+mod transitions;

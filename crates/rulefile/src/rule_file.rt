@@ -1,15 +1,98 @@
-use crate::dense::DenseTable;
-use crate::edges::EdgeList;
+ghost use Rattle.std.specs.Prelude.{◌≡◌, None};
+ghost use Rattle.ruleformat.specs.declared.format.Kind.{Kind as TableKind};
+ghost use Rattle.ruleformat.specs.Faults.{Good};
+ghost use Rattle.ruleformat.specs.Makes.{MakesEither};
+ghost use Rattle.rulefile.specs.Meanings.{good_meaning, file_meaning, kind_of};
+
+use crate::dense::{Dense, DenseTable};
+use crate::edges::{EdgeList, Edges};
+use crate::good_file::GoodFile;
+use crate::table::FileTable;
+use crate::transitions::Transitions;
+use automata::automaton::Automaton;
+use automata::verdict::Verdict;
 use ruleformat::format::Kind;
 
-/// A rule file of either kind, with verdicts of `V`: both are made of the file, the one that is not
-/// of its kind is closed, and the other one answers.
+/// The automaton of a rule file, of the kind that the file is of, with verdicts of `V`.
 #[derive(Drop)]
-pub struct RuleFile<'a, V> {
-    kind: Kind,
-    dense: DenseTable<'a, V>,
-    edges: EdgeList<'a, V>,
+pub enum RuleFile<'a, V> {
+    Dense(DenseTable<'a, V>),
+    Edges(EdgeList<'a, V>),
 }
 
-pub mod answers;
-pub mod make;
+impl<'a, V: Verdict> RuleFile<'a, V> {
+    /// The file's automaton, whichever kind it is of, or the closed rule where the check refuses
+    /// the file. The file is read through once.
+    pub fn make(file: &'a [u8]) -> RuleFile<'a, V>
+        ensures made { MakesEither V.Verdict.reads V.Verdict.closing file.now (file_meaning V.Verdict.reads V.Verdict.closing result) }
+        ensures kind { (kd : TableKind) → Good V.Verdict.reads None file.now kd → kind_of result ≡ kd }
+    {
+        match GoodFile::read::<V>(file, None) {
+            Ok(good) => RuleFile::from(good),
+            Err(_) => RuleFile::Dense(FileTable::new(None)),
+        }
+    }
+
+    /// The file's kind; dense where the file was refused.
+    pub fn kind(&self) -> Kind
+        ensures { result ≡ kind_of self.now }
+    {
+        match self {
+            RuleFile::Dense(_) => Kind::Dense,
+            RuleFile::Edges(_) => Kind::Edges,
+        }
+    }
+}
+
+/// A file that is known to be good has its automaton without being read through once more.
+impl<'a, V: Verdict> From<GoodFile<'a>> for RuleFile<'a, V> {
+    ghost from_gives = { λ good r. (kind_of r ≡ good.header.kind) × (file_meaning V.Verdict.reads V.Verdict.closing r ≡ good_meaning V.Verdict.reads V.Verdict.closing good) };
+
+    fn from(good: GoodFile<'a>) -> RuleFile<'a, V> {
+        match good.header.kind {
+            Kind::Dense => RuleFile::Dense(FileTable::new(Some(Dense::of(good)))),
+            Kind::Edges => RuleFile::Edges(FileTable::new(Some(Edges::of(good)))),
+        }
+    }
+}
+
+impl<'a, W: Verdict> Automaton for RuleFile<'a, W> {
+    type V = W;
+
+    ghost meaning = { file_meaning W.Verdict.reads W.Verdict.closing };
+
+    fn states(&self) -> usize {
+        match self {
+            RuleFile::Dense(t) => t.states(),
+            RuleFile::Edges(t) => t.states(),
+        }
+    }
+
+    fn letters(&self) -> usize {
+        match self {
+            RuleFile::Dense(t) => t.letters(),
+            RuleFile::Edges(t) => t.letters(),
+        }
+    }
+
+    fn start(&self) -> usize {
+        match self {
+            RuleFile::Dense(t) => t.start(),
+            RuleFile::Edges(t) => t.start(),
+        }
+    }
+
+    fn next(&self, state: usize, letter: usize) -> usize {
+        match self {
+            RuleFile::Dense(t) => t.next(state, letter),
+            RuleFile::Edges(t) => t.next(state, letter),
+        }
+    }
+
+    fn verdict(&self, state: usize) -> W {
+        match self {
+            RuleFile::Dense(t) => t.verdict(state),
+            RuleFile::Edges(t) => t.verdict(state),
+        }
+    }
+}

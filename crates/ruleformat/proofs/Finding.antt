@@ -1,12 +1,12 @@
 -- What is found in the edges of a good file.
-use Rattle.std.proofs.Common.{◌≡◌, ℕ, zero, suc, ◌+◌, ◌<◌, ◌≤◌, true, false, List, sym, ◌∙◌, subst, ⊎_elim, arith}
+use Rattle.std.proofs.Common.{◌≡◌, ℕ, zero, suc, ◌+◌, ◌<◌, ◌≤◌, List, sym, ◌∙◌, ap, subst, ⊎_elim, arith}
 use Rattle.std.proofs.lemmas.Bool.{cases_lt, cases_order, cond_both}
 use Rattle.ruleformat.specs.declared.format.Edge.{Edge}
 use Rattle.ruleformat.specs.declared.format.Header.{Header}
 use Rattle.ruleformat.specs.declared.format.Kind.TheVariants.{Edges}
 use Rattle.ruleformat.specs.Faults.{AllRight, edge_of}
-use Rattle.ruleformat.specs.EdgeWords.{Lists, Leads, lists, lead, comes_before, IndexOf}
-use Rattle.ruleformat.proofs.Rising.{before_unlisted, behind_last, before_state, state_before, rises_far, lower_part, upper_part, lead_listed, lead_unlisted}
+use Rattle.ruleformat.specs.EdgeWords.{Lists, Leads, lists, lead, IndexOf}
+use Rattle.ruleformat.proofs.Rising.{rises_far, lead_listed, lead_unlisted}
 
 module _ (f : List ℕ) (h : Header) (right : AllRight Edges f h) where
   abbrev es : ℕ → Edge
@@ -15,20 +15,15 @@ module _ (f : List ℕ) (h : Header) (right : AllRight Edges f h) where
   some : (i : ℕ) → i < h.entries → (es i).first ≤ (es i).last
   some i lt = (right i lt).0.2
 
-  pub lower : (s a mid : ℕ) → mid < h.entries → comes_before (es mid) s a ≡ true → (i : ℕ) → i < mid + 1 → comes_before (es i) s a ≡ true
-  lower = lower_part es h.entries some (λ i lt. (right i lt).1)
+  pub states_rise : (i j : ℕ) → i ≤ j → j < h.entries → (es i).state ≤ (es j).state
+  states_rise i j le lt =
+      ⊎_elim (λ low. (rises_far es h.entries some (λ k less. (right k less).1) i j low lt).0) (λ high. let same : i ≡ j = omega arith in let e : (es i).state ≡ (es j).state = ap (λ (k : ℕ). (es k).state) same in omega arith) (cases_lt i j)
 
-  pub upper : (s a mid : ℕ) → comes_before (es mid) s a ≡ false → (i : ℕ) → mid ≤ i → i < h.entries → comes_before (es i) s a ≡ false
-  upper = upper_part es h.entries some (λ i lt. (right i lt).1)
-
-  -- the first edge that does not stand before letter 0 of a state is the state's index
-  pub index_is : (s first : ℕ) → first ≤ h.entries → ((i : ℕ) → 0 ≤ i → i < first → comes_before (es i) s 0 ≡ true) → ((i : ℕ) → first ≤ i → i < h.entries → comes_before (es i) s 0 ≡ false) → IndexOf f h s first
+  -- the first edge that is of no smaller state is the state's index
+  pub index_is : (s first : ℕ) → first ≤ h.entries → ((i : ℕ) → i < first → (es i).state < s) → ((i : ℕ) → first ≤ i → i < h.entries → s ≤ (es i).state) → IndexOf f h s first
   index_is s first le before behind = (
     le,
-    λ i lt. (
-      λ low. before_state (es i) s (before i (omega arith) low),
-      λ small. ⊎_elim (λ low. low) (λ high. absurd (let large = state_before (es i) s (behind i high lt) in omega arith)) (cases_lt i first),
-    ),
+    λ i lt. (before i, λ small. ⊎_elim (λ low. low) (λ high. absurd (let large = behind i high lt in omega arith)) (cases_lt i first)),
   )
 
   -- the edges of state s are those from its index to that of s + 1
@@ -49,24 +44,29 @@ module _ (f : List ℕ) (h : Header) (right : AllRight Edges f h) where
     to_index : (i : ℕ) → i < h.entries → (es i).state ≡ s → i < q
     to_index i lt e = (to.1 i lt).1 (omega arith)
 
-    -- no edge lists a letter that all edges of the state stand before
-    pub past_all : (a : ℕ) → ((i : ℕ) → p ≤ i → i < q → comes_before (es i) s a ≡ true) → (i : ℕ) → i < h.entries → Lists (es i) s a → ⊥
-    past_all a before i lt l = before_unlisted (es i) s a (before i (from_index i lt l.of_state) (to_index i lt l.of_state)) l
+    -- and their letters do not overlap
+    pub letters_rise : (i j : ℕ) → p ≤ i → i < j → j < q → (es i).last < (es j).first
+    letters_rise i j low lt high =
+        let l = to.0 in (rises_far es h.entries some (λ k less. (right k less).1) i j lt (omega arith)).1 (of_state i low (omega arith) ∙ sym (of_state j (omega arith) high))
 
-    -- nor one that the first edge not before it begins behind
-    pub in_gap : (a found : ℕ) → p ≤ found → found < q → ((i : ℕ) → p ≤ i → i < found → comes_before (es i) s a ≡ true) → a < (es found).first → (i : ℕ) → i < h.entries → Lists (es i) s a → ⊥
-    in_gap a found low high before gap i lt l =
-        let t = to.0 in
-        let here = of_state found low high in
-        let least = some found (omega arith) in
-        ⊎_elim (λ e. absurd (let first : (es found).first ≤ a = subst (λ (x : ℕ). (es x).first ≤ a) e l.from_first in omega arith))
-        (λ o. ⊎_elim (λ front. before_unlisted (es i) s a (before i (from_index i lt l.of_state) front) l) (λ back. let rise = (rises_far es h.entries some (λ j less. (right j less).1) found i back lt).1 (here ∙ sym l.of_state) in omega (arith, l.from_first)) o)
+    pub lasts_rise : (i j : ℕ) → p ≤ i → i ≤ j → j < q → (es i).last ≤ (es j).last
+    lasts_rise i j low le high =
+        let l = to.0 in
+        let least = some j (omega arith) in
+        ⊎_elim (λ lt. let gap = letters_rise i j low lt high in omega arith) (λ ge. let same : i ≡ j = omega arith in let e : (es i).last ≡ (es j).last = ap (λ (k : ℕ). (es k).last) same in omega arith) (cases_lt i j)
+
+    -- no edge lists a letter behind which each edge of the state ends, or the first one that does not begins
+    pub in_gap : (a found : ℕ) → ((i : ℕ) → p ≤ i → i < found → i < q → (es i).last < a) → (p ≤ found → found < q → a < (es found).first) → p ≤ found → (i : ℕ) → i < h.entries → Lists (es i) s a → ⊥
+    in_gap a found before gap low i lt l =
+        let start = from_index i lt l.of_state in
+        let end = to_index i lt l.of_state in
+        ⊎_elim (λ e. let u = gap low (subst (λ (k : ℕ). k < q) e end) in let v = subst (λ (k : ℕ). (es k).first ≤ a) e l.from_first in omega arith)
+        (λ o. ⊎_elim (λ front. let u = before i start front end in omega (arith, l.to_last)) (λ back. let g = gap low (omega arith) in let t = to.0 in let least = some found (omega arith) in let u = letters_rise found i low back end in omega (arith, l.from_first)) o)
         (cases_order i found)
 
-    -- the first edge not before it lists a letter that it does not begin behind
-    pub found_lists : (a found : ℕ) → p ≤ found → found < q → comes_before (es found) s a ≡ false → (es found).first ≤ a → Lists (es found) s a
-    found_lists a found low high behind first =
-        let here = of_state found low high in record { of_state = here; from_first = first; to_last = behind_last (es found) s a behind here }
+    -- the first edge that does not end before a letter lists it, if it does not begin behind it
+    pub found_lists : (a found : ℕ) → p ≤ found → found < q → a ≤ (es found).last → (es found).first ≤ a → Lists (es found) s a
+    found_lists a found low high last first = record { of_state = of_state found low high; from_first = first; to_last = last }
 
   pub leads_to : (s a i : ℕ) → i < h.entries → Lists (es i) s a → (es i).target ≡ lead es h.entries s a
   leads_to s a i lt l = sym (lead_listed es h.entries some (λ j less. (right j less).1) s a i lt l)

@@ -1,37 +1,16 @@
--- In edges that rise, a state and a letter are listed at most once, and those before a letter stand in front.
-use Rattle.std.proofs.Common.{◌≡◌, ℕ, zero, suc, ◌+◌, ◌-◌, ◌<◌, ◌≤◌, Bool, true, false, sym, refl, ap, ◌∙◌, subst, ⊎_elim, arith}
+-- In edges that rise, a state and a letter are listed at most once.
+use Rattle.std.proofs.Common.{◌≡◌, ℕ, zero, suc, ◌+◌, ◌-◌, ◌<◌, ◌≤◌, true, false, sym, refl, ap, ◌∙◌, subst, ⊎_elim, arith}
 use Rattle.std.proofs.lemmas.Bool.{cases_order, cases_Bool}
 use Rattle.std.proofs.lemmas.Bool.Decides.{nat_tests}
 use Rattle.ruleformat.specs.declared.format.Edge.{Edge}
 use Rattle.ruleformat.specs.Faults.{Rises}
-use Rattle.ruleformat.specs.EdgeWords.{Lists, lists, lead, comes_before}
+use Rattle.ruleformat.specs.EdgeWords.{Lists, lists, lead}
 
 pub lists_true : (e : Edge) (s a : ℕ) → lists e s a ≡ true → Lists e s a
 lists_true e s a h = record { of_state = grind (arith, nat_tests); from_first = grind (arith, nat_tests); to_last = grind (arith, nat_tests) }
 
 lists_false : (e : Edge) (s a : ℕ) → lists e s a ≡ false → Lists e s a → ⊥
 lists_false e s a h l = let p = l.of_state in let q = l.from_first in let r = l.to_last in grind (arith, nat_tests)
-
--- an edge before a letter does not list it
-pub before_unlisted : (e : Edge) (s a : ℕ) → comes_before e s a ≡ true → Lists e s a → ⊥
-before_unlisted e s a b l = let p = l.of_state in let q = l.to_last in grind (arith, nat_tests)
-
--- an edge of the state that is not before a letter ends behind it
-pub behind_last : (e : Edge) (s a : ℕ) → comes_before e s a ≡ false → e.state ≡ s → a ≤ e.last
-behind_last e s a b p = grind (arith, nat_tests)
-
--- before letter 0 of a state are the edges of smaller states
-pub before_state : (e : Edge) (s : ℕ) → comes_before e s 0 ≡ true → e.state < s
-before_state e s b = grind (arith, nat_tests)
-
-pub state_before : (e : Edge) (s : ℕ) → comes_before e s 0 ≡ false → s ≤ e.state
-state_before e s b = grind (arith, nat_tests)
-
--- what stands in front of an edge before a letter stands before that letter too
-falls : (d e : Edge) (s a : ℕ) → Rises d e → e.first ≤ e.last → comes_before e s a ≡ true → comes_before d s a ≡ true
-falls d e s a r some b =
-    let low = r.0 in
-    ⊎_elim (λ same. let gap = r.1 same in grind (arith, nat_tests)) (λ o. ⊎_elim (λ lt. grind (arith, nat_tests)) (λ gt. absurd (omega arith)) o) (cases_order d.state e.state)
 
 module _ (es : ℕ → Edge) (m : ℕ) (some : (i : ℕ) → i < m → (es i).first ≤ (es i).last) (rise : (i : ℕ) → i < m → 0 < i → Rises (es (i - 1)) (es i)) where
   -- not only neighbours rise
@@ -49,15 +28,6 @@ module _ (es : ℕ → Edge) (m : ℕ) (some : (i : ℕ) → i < m → (es i).fi
   rises_far i j lt h =
       let e : i + (j - i - 1) + 1 ≡ j = omega arith in
       subst (λ (x : ℕ). Rises (es i) (es x)) e (far i (j - i - 1) (omega arith))
-
-  pub lower_part : (s a mid : ℕ) → mid < m → comes_before (es mid) s a ≡ true → (i : ℕ) → i < mid + 1 → comes_before (es i) s a ≡ true
-  lower_part s a mid h b i lt =
-      ⊎_elim (λ e. subst (λ (x : ℕ). comes_before (es x) s a ≡ true) (sym e) b)
-      (λ o. ⊎_elim (λ l. falls (es i) (es mid) s a (rises_far i mid l h) (some mid h) b) (λ g. absurd (omega arith)) o) (cases_order i mid)
-
-  pub upper_part : (s a mid : ℕ) → comes_before (es mid) s a ≡ false → (i : ℕ) → mid ≤ i → i < m → comes_before (es i) s a ≡ false
-  upper_part s a mid b i le h =
-      ⊎_elim (λ t. absurd (let u = lower_part s a i h t mid (omega arith) in let z : ◌≡◌ {A = Bool} true false = sym u ∙ b in grind (arith, nat_tests))) (λ e. e) (cases_Bool (comes_before (es i) s a))
 
   apart : (s a i j : ℕ) → i < j → j < m → Lists (es i) s a → Lists (es j) s a → ⊥
   apart s a i j lt h p q =

@@ -1,5 +1,6 @@
 -- Where a list of edges leads, and in which order the edges stand.
-use Rattle.std.specs.Prelude.{◌≡◌, ℕ, zero, suc, ◌<◌, ◌≤◌, Bool, cond, ◌&&◌, ◌||◌, List, ◌==◌, nat_le, nat_lt, slice_index}
+use Rattle.std.specs.Prelude.{◌≡◌, ℕ, zero, suc, ◌<◌, ◌≤◌, Bool, cond, ◌&&◌, List, ◌==◌, nat_le, slice_index, slice_range}
+use Rattle.std.specs.Simd.{first_chunks}
 use Rattle.ruleformat.specs.declared.format.Edge.{Edge}
 use Rattle.ruleformat.specs.declared.format.Header.{Header}
 use Rattle.ruleformat.specs.Faults.{edge_of}
@@ -23,10 +24,6 @@ pub record Leads (f : List ℕ) (h : Header) (s a r : ℕ) : Type 0 where
   pub listed : (i : ℕ) → i < h.entries → Lists (edge_of f h i) s a → r ≡ (edge_of f h i).target
   pub unlisted : ((i : ℕ) → i < h.entries → Lists (edge_of f h i) s a → ⊥) → r ≡ s
 
--- an edge stands before letter a of state s: its last letter does
-abbrev pub comes_before : Edge → ℕ → ℕ → Bool
-comes_before e s a = nat_lt e.state s || (e.state == s && nat_lt e.last a)
-
 -- `first` is the number of edges of states below s: the index of the first edge of s, if it has one
 abbrev pub IndexOf : List ℕ → Header → ℕ → ℕ → Type 0
 IndexOf f h s first =
@@ -35,3 +32,7 @@ IndexOf f h s first =
 -- the index of each state, and behind the last one the number of all edges
 abbrev pub Indexed : List ℕ → Header → List ℕ → Type 0
 Indexed f h firsts = (s : ℕ) → s ≤ h.states → IndexOf f h s (slice_index firsts s)
+
+-- the bytes of the edges, six each
+abbrev pub edge_bytes : List ℕ → Header → List (List ℕ)
+edge_bytes f h = first_chunks 6 h.entries (slice_range f h.transitions h.verdicts)

@@ -5,3 +5,4 @@ pub mod Faults
 pub mod EdgeWords
 pub mod Tables
 pub mod Makes
+pub mod Once

@@ -2,17 +2,16 @@
 use Rattle.std.specs.Prelude.{◌≡◌, ℕ, ◌<◌, List, ◌++◌, Some, None, Option}
 use Rattle.automata.specs.Meaning.{Meaning, closed_rule}
 use Rattle.ruleformat.specs.declared.format.Kind.{Kind}
-use Rattle.ruleformat.specs.declared.format.Kind.TheVariants.{Dense, Edges}
+use Rattle.ruleformat.specs.declared.format.Kind.TheVariants.{Edges}
 use Rattle.ruleformat.specs.declared.format.Header.{Header}
 use Rattle.ruleformat.specs.Layout.{header_of}
 use Rattle.ruleformat.specs.Faults.{Good}
 use Rattle.ruleformat.specs.EdgeWords.{Leads}
-use Rattle.ruleformat.specs.Tables.{dense_table, edge_table}
+use Rattle.ruleformat.specs.Tables.{with_transitions, transitions_of}
 
--- the table of a file of kind kd
+-- the table of a file of kind kd: `dense_table` or `edge_table`
 abbrev pub table_of : {V : Type 0} → Kind → (ℕ → Option V) → V → List ℕ → Header → Meaning V
-table_of Dense = dense_table
-table_of Edges = edge_table
+table_of kd reads closing f h = with_transitions (transitions_of kd f h) reads closing f h
 
 -- m is what is made of a file as one of kind kd: the file's table if it is good, and else the closed rule
 abbrev pub Makes : {V : Type 0} → Kind → (ℕ → Option V) → V → List ℕ → Meaning V → Type 0
@@ -24,11 +23,6 @@ abbrev pub MakesEither : {V : Type 0} → (ℕ → Option V) → V → List ℕ 
 MakesEither reads closing f m =
     ((kd : Kind) → Good reads None f kd → m ≡ table_of kd reads closing f (header_of f kd))
     × (((kd : Kind) → Good reads None f kd → ⊥) → m ≡ closed_rule closing)
-
--- of two automata, the one of a kind
-abbrev pub by_kind : {V : Type 0} → Kind → Meaning V → Meaning V → Meaning V
-by_kind Dense dense edges = dense
-by_kind Edges dense edges = edges
 
 -- within the ranges m leads as the edges of a good file do
 abbrev pub FollowsEdges : {V : Type 0} → (ℕ → Option V) → List ℕ → Meaning V → Type 0

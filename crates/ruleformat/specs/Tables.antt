@@ -2,7 +2,8 @@
 use Rattle.std.specs.Prelude.{ℕ, ◌+◌, ◌*◌, ◌<◌, ◌≤◌, cond, ◌&&◌, List, Some, None, Option, nat_lt, slice_index}
 use Rattle.std.specs.Option.{unwrap_or}
 use Rattle.automata.specs.Meaning.{Meaning, closed_rule}
-use Rattle.ruleformat.specs.declared.format.Kind.TheVariants.{Dense}
+use Rattle.ruleformat.specs.declared.format.Kind.{Kind}
+use Rattle.ruleformat.specs.declared.format.Kind.TheVariants.{Dense, Edges}
 use Rattle.ruleformat.specs.declared.format.Header.{Header}
 use Rattle.ruleformat.specs.Bytes.{two_at}
 use Rattle.ruleformat.specs.Layout.{entry_place, verdict_place}
@@ -42,7 +43,12 @@ dense_table reads closing f h = with_transitions (target f h) reads closing f h
 abbrev pub edge_table : {V : Type 0} → (ℕ → Option V) → V → List ℕ → Header → Meaning V
 edge_table reads closing f h = with_transitions (lead (edge_of f h) h.entries) reads closing f h
 
--- the table of a header, and the closed rule where there is none
-abbrev pub or_closed : {V : Type 0} → V → Option Header → (Header → Meaning V) → Meaning V
-or_closed closing None table = closed_rule closing
-or_closed closing (Some h) table = table h
+-- where the transitions of a file of kind kd lead
+abbrev pub transitions_of : Kind → List ℕ → Header → ℕ → ℕ → ℕ
+transitions_of Dense f h = target f h
+transitions_of Edges f h = lead (edge_of f h) h.entries
+
+-- what is meant of the one that is there, and the closed rule where there is none
+abbrev pub or_closed : {V X : Type 0} → V → Option X → (X → Meaning V) → Meaning V
+or_closed closing None meaning = closed_rule closing
+or_closed closing (Some x) meaning = meaning x

@@ -1,6 +1,7 @@
 // What the bytes of a rule file hold.
 ghost use Rattle.std.specs.Prelude.{◌≡◌, ◌++◌, Some, codes, decimal};
 ghost use Rattle.ruleformat.specs.Layout.{kind_byte, entry_size, SaysKind};
+ghost use Rattle.ruleformat.specs.Bytes.{edge_at};
 ghost use Rattle.ruleformat.specs.Numbers.{kind_name};
 
 use std::error::Error;
@@ -108,4 +109,19 @@ pub struct Edge {
     pub first: usize,
     pub last: usize,
     pub target: usize,
+}
+
+impl From<[u8; 6]> for Edge {
+    ghost from_gives = { λ bytes e. e ≡ edge_at bytes 0 };
+
+    #[tactic(auto, unfolding(crate::specs::Bytes::edge_at))]
+    fn from(bytes: [u8; 6]) -> Edge {
+        let [s, s_high, first, last, t, t_high] = bytes;
+        Edge {
+            state: u16::from_le_bytes([s, s_high]) as usize,
+            first: first as usize,
+            last: last as usize,
+            target: u16::from_le_bytes([t, t_high]) as usize,
+        }
+    }
 }

@@ -1,6 +1,0 @@
-use Rattle.std.proofs.Common.{◌≡◌, ℕ, ◌<◌, length, get_or}
-use Rattle.ruleformat.specs.EdgeWords.{IndexOf}
-use Rattle.rulefile.proofs.halving.index_states.Given as goal
-
-abbrev pub invariant-loop-state : goal.invariant-loop-state
-invariant-loop-state l = (length l.firsts ≡ 129) × ((s : ℕ) → s < l.state → IndexOf l.file l.h s (get_or l.firsts s 0))

@@ -1,0 +1,48 @@
+ghost use Rattle.std.specs.Prelude.{◌≡◌, ◌*◌, length};
+ghost use Rattle.ruleformat.specs.declared.format.Kind.TheVariants as kinds;
+ghost use Rattle.ruleformat.specs.Layout.{Closes};
+ghost use Rattle.ruleformat.specs.Faults.{AllRight};
+ghost use Rattle.ruleformat.specs.Tables.{InRanges};
+ghost use Rattle.ruleformat.specs.Once.{AllRight-prop};
+
+use automata::verdict::Verdict;
+use rulecheck::check::check;
+use ruleformat::fault::FileFault;
+use ruleformat::format::{Header, Kind};
+
+/// A file that the check found good, and what it says of itself.
+#[derive(Clone, Copy)]
+pub struct GoodFile<'a> {
+    pub file: &'a [u8],
+    pub header: Header,
+    ghost ranged: { InRanges header },
+    ghost closes: { Closes (length file.now) header.kind header },
+    ghost full: { header.kind ≡ kinds.Dense → header.entries ≡ header.states * header.letters },
+    ghost right: { AllRight header.kind file.now header } by { AllRight-prop header.kind file.now header },
+}
+
+impl<'a> GoodFile<'a> {
+    ghost use Rattle.std.specs.Prelude.{MatchResult};
+    ghost use Rattle.ruleformat.specs.Layout.{header_of};
+    ghost use Rattle.ruleformat.specs.Faults.{Good, Refused};
+    ghost use Rattle.ruleformat.specs.Tables.{verdict_at};
+
+    /// The file, if all of it is good: of the wanted kind, or of either where none is named, with
+    /// verdicts of `V`. Else the fault of smallest number, with its place.
+    pub fn read<V: Verdict>(file: &'a [u8], wanted: Option<Kind>) -> Result<GoodFile<'a>, FileFault>
+        ensures { MatchResult result (λ g. (g.file.now ≡ file.now) × Good V.Verdict.reads wanted file.now g.header.kind × (g.header ≡ header_of file.now g.header.kind)) (Refused V.Verdict.reads wanted file.now) }
+    {
+        let header = check::<V>(file, wanted)?;
+        Ok(GoodFile { file, header })
+    }
+
+    /// The verdict of a state, and the closing one where there is no such state.
+    pub fn verdict<V: Verdict>(&self, state: usize) -> V
+        ensures { result ≡ verdict_at V.Verdict.reads V.Verdict.closing self.now.file.now self.now.header state }
+    {
+        if state >= self.header.states {
+            return V::closing();
+        }
+        V::read(self.file[self.header.verdicts + state]).unwrap_or(V::closing())
+    }
+}

@@ -1,0 +1,89 @@
+use crate::good_file::GoodFile;
+use crate::transitions::Transitions;
+use automata::automaton::Automaton;
+use automata::verdict::Verdict;
+use std::marker::PhantomData;
+
+/// The automaton of a file of the kind of the transitions `T`, with verdicts of `V`; the closed
+/// rule where the check refused the file, and there are none.
+#[derive(Drop)]
+pub struct FileTable<'a, T, V> {
+    transitions: Option<T>,
+    says: PhantomData<&'a V>,
+}
+
+impl<'a, T: Transitions<'a>, V: Verdict> FileTable<'a, T, V> {
+    ghost use Rattle.std.specs.Prelude.{◌≡◌, is_some, Some, Decides};
+    ghost use Rattle.ruleformat.specs.declared.format.Kind.TheVariants as kinds;
+    ghost use Rattle.ruleformat.specs.Faults.{Good};
+    ghost use Rattle.ruleformat.specs.Makes.{Makes, FollowsEdges};
+    ghost use Rattle.rulefile.specs.Meanings.{table_meaning};
+
+    /// The file's table, or the closed rule where the check refuses the file as one of the kind.
+    pub fn make(file: &'a [u8]) -> FileTable<'a, T, V>
+        ensures leads { T.kind ≡ kinds.Edges → FollowsEdges V.Verdict.reads file.now (table_meaning V.Verdict.reads V.Verdict.closing T.file_of result) }
+        ensures there { Decides (is_some result.transitions) (Good V.Verdict.reads (Some T.kind) file.now T.kind) }
+        ensures made { Makes T.kind V.Verdict.reads V.Verdict.closing file.now (table_meaning V.Verdict.reads V.Verdict.closing T.file_of result) }
+    {
+        let transitions = match GoodFile::read::<V>(file, Some(T::kind())) {
+            Ok(good) => Some(T::of(good)),
+            Err(_) => None,
+        };
+        FileTable::new(transitions)
+    }
+
+    // The automaton of those transitions, or the closed rule.
+    pub(crate) fn new(transitions: Option<T>) -> FileTable<'a, T, V>
+        ensures { result.transitions ≡ transitions }
+    {
+        FileTable {
+            transitions,
+            says: PhantomData,
+        }
+    }
+}
+
+impl<'a, T: Transitions<'a>, W: Verdict> Automaton for FileTable<'a, T, W> {
+    ghost use Rattle.rulefile.specs.Meanings.{table_meaning};
+
+    type V = W;
+
+    ghost meaning = { table_meaning W.Verdict.reads W.Verdict.closing T.file_of };
+
+    fn states(&self) -> usize {
+        match &self.transitions {
+            Some(t) => t.good().header.states,
+            None => 1,
+        }
+    }
+
+    fn letters(&self) -> usize {
+        match &self.transitions {
+            Some(t) => t.good().header.letters,
+            None => 1,
+        }
+    }
+
+    fn start(&self) -> usize {
+        match &self.transitions {
+            Some(t) => t.good().header.start,
+            None => 0,
+        }
+    }
+
+    fn next(&self, state: usize, letter: usize) -> usize {
+        match &self.transitions {
+            Some(t) if state < t.good().header.states && letter < t.good().header.letters => {
+                t.next(state, letter)
+            }
+            _ => 0,
+        }
+    }
+
+    fn verdict(&self, state: usize) -> W {
+        match &self.transitions {
+            Some(t) => t.good().verdict(state),
+            None => W::closing(),
+        }
+    }
+}
