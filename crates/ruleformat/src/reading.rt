@@ -35,10 +35,13 @@ pub fn four(file: &[u8], at: usize) -> usize
 pub fn edge(file: &[u8], at: usize) -> Edge
     ensures { result ≡ edge_at file.now at }
 {
-    Edge {
-        state: two(file, at),
-        first: byte(file, at.saturating_add(2)) as usize,
-        last: byte(file, at.saturating_add(3)) as usize,
-        target: two(file, at.saturating_add(4)),
-    }
+    let last = byte(file, at.saturating_add(3));
+    Edge::from([
+        byte(file, at),
+        byte(file, at.saturating_add(1)),
+        byte(file, at.saturating_add(2)),
+        last,
+        byte(file, at.saturating_add(4)),
+        byte(file, at.saturating_add(5)),
+    ])
 }
