@@ -22,15 +22,16 @@ pub struct GoodFile<'a> {
 }
 
 impl<'a> GoodFile<'a> {
-    ghost use Rattle.std.specs.Prelude.{MatchResult};
-    ghost use Rattle.ruleformat.specs.Layout.{header_of};
-    ghost use Rattle.ruleformat.specs.Faults.{Good, Refused};
+    ghost use Rattle.std.specs.Prelude.{IfOk};
+    ghost use Rattle.std.specs.Result.{result_map_both};
+    ghost use Rattle.ruleformat.specs.Faults.{Answers};
     ghost use Rattle.ruleformat.specs.Tables.{verdict_at};
 
     /// The file, if all of it is good: of the wanted kind, or of either where none is named, with
     /// verdicts of `V`. Else the fault of smallest number, with its place.
     pub fn read<V: Verdict>(file: &'a [u8], wanted: Option<Kind>) -> Result<GoodFile<'a>, FileFault>
-        ensures { MatchResult result (λ g. (g.file.now ≡ file.now) × Good V.Verdict.reads wanted file.now g.header.kind × (g.header ≡ header_of file.now g.header.kind)) (Refused V.Verdict.reads wanted file.now) }
+        ensures answer { Answers V.Verdict.reads wanted file.now (result_map_both (λ g. g.header) (λ e. e) result) }
+        ensures file { IfOk result (λ g. g.file.now ≡ file.now) }
     {
         let header = check::<V>(file, wanted)?;
         Ok(GoodFile { file, header })

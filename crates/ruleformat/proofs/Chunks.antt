@@ -1,4 +1,4 @@
--- The edges of a good file, in the list of their bytes.
+-- The edges of a file in the list of their bytes.
 use Rattle.std.proofs.Common.{◌≡◌, ℕ, zero, suc, ◌+◌, ◌-◌, ◌*◌, ◌<◌, ◌≤◌, ltb, true, false, List, [], length, get_or, drop, refl, sym, ap, ◌∙◌, subst, arith}
 use Rattle.std.proofs.lemmas.Bool.{ltb-true, ltb-false}
 use Rattle.std.proofs.lemmas.List.{get_or-take, get_or-drop}
@@ -44,21 +44,3 @@ module _ (f : List ℕ) (h : Header) (closes : Closes (length f) Edges h) where
         last = byte_of i 3 (at + 3) d lt (omega arith) (omega arith) t;
         target = byte_of i 4 (at + 4) d lt (omega arith) (omega arith) t + byte_of i 5 (at + 4 + 1) d lt (omega arith) (omega arith) t * 256;
       }
-
-  module _ (right : AllRight Edges f h) where
-    -- states rise in that list
-    pub states_in_order : IsNonDecreasingBy (λ (b : List ℕ). (edge_at b 0).state) (edge_bytes f h)
-    states_in_order i j d le lt =
-        let long = length-chunks 6 h.entries (between h.transitions h.verdicts f) in
-        let r = states_rise f h right i j le (omega arith) in
-        let u : (edge_at (get_or (edge_bytes f h) i d) 0).state ≡ (edge_of f h i).state = ap (λ (e : Edge). e.state) (edge_in i d (omega arith)) in
-        let v : (edge_at (get_or (edge_bytes f h) j d) 0).state ≡ (edge_of f h j).state = ap (λ (e : Edge). e.state) (edge_in j d (omega arith)) in
-        omega arith
-
-    -- and where the edges of smaller states end is a state's index
-    pub index_at : (s first : ℕ) → IsPartitionPoint (λ (b : List ℕ). ltb (edge_at b 0).state s ≡ true) (λ (b : List ℕ). ltb (edge_at b 0).state s ≡ false) (edge_bytes f h) first → first ≤ length (edge_bytes f h) → IndexOf f h s first
-    index_at s first point le =
-        let long = length-chunks 6 h.entries (between h.transitions h.verdicts f) in
-        index_is f h right s first (omega arith)
-        (λ i lt. let u = ltb-true _ _ (point.0 i [] (omega arith) lt) in let v = ap (λ (e : Edge). e.state) (edge_in i [] (omega arith)) in omega arith)
-        (λ i ge lt. let u = ltb-false _ _ (point.1 i [] ge (omega arith)) in let v = ap (λ (e : Edge). e.state) (edge_in i [] lt) in omega arith)
