@@ -3,6 +3,7 @@ ghost use Rattle.ruleformat.specs.declared.format.Kind.{Kind as TableKind};
 ghost use Rattle.ruleformat.specs.Faults.{Good};
 ghost use Rattle.ruleformat.specs.Makes.{MakesEither};
 ghost use Rattle.rulefile.specs.Meanings.{good_meaning, file_meaning, kind_of};
+ghost use Rattle.rulefile.specs.Soundness.{file_meaning_sound};
 
 use crate::dense::{Dense, DenseTable};
 use crate::edges::{EdgeList, Edges};
@@ -60,6 +61,8 @@ impl<'a, W: Verdict> Automaton for RuleFile<'a, W> {
     type V = W;
 
     ghost meaning = { file_meaning W.Verdict.reads W.Verdict.closing };
+
+    ghost sound = { file_meaning_sound W.Verdict.reads W.Verdict.closing };
 
     fn states(&self) -> usize {
         match self {

@@ -45,10 +45,13 @@ impl<'a, T: Transitions<'a>, V: Verdict> FileTable<'a, T, V> {
 
 impl<'a, T: Transitions<'a>, W: Verdict> Automaton for FileTable<'a, T, W> {
     ghost use Rattle.rulefile.specs.Meanings.{table_meaning};
+    ghost use Rattle.rulefile.specs.Soundness.{table_meaning_sound};
 
     type V = W;
 
     ghost meaning = { table_meaning W.Verdict.reads W.Verdict.closing T.file_of };
+
+    ghost sound = { table_meaning_sound W.Verdict.reads W.Verdict.closing T.file_of };
 
     fn states(&self) -> usize {
         match &self.transitions {
