@@ -5,4 +5,5 @@ pub mod Telling
 pub mod Printing
 pub mod Cutting
 pub mod RoundTrip
+pub mod Taking
 pub mod Walking

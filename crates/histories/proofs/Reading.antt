@@ -37,8 +37,3 @@ pub read_below : (k : ℕ) (line : List ℕ) (r : Result (Vec ℕ Global) LineFa
 read_below k line (Ok v) e = letters_below k [] (tokens line) (vec_items v) tt e
 read_below k line (Err (Token t)) e = tt
 read_below k line (Err Memory) e = tt
-
--- after n letters: none was read of the tokens, or the first is a letter
-pub record Begun (k : ℕ) (all : List (List ℕ)) (n : ℕ) (left : List (List ℕ)) : Type 0 where
-  pub none_yet : n ≡ 0 → all ≡ left
-  pub some_already : 0 < n → Begins k all

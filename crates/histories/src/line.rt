@@ -1,11 +1,13 @@
-ghost use Rattle.std.specs.Prelude.{IfOk};
+ghost use Rattle.std.specs.Prelude.{◌≡◌, IfOk};
+ghost use Rattle.histories.specs.declared.line.LineFault.TheVariants.{Token, Memory};
 ghost use Rattle.automata.specs.Words.{Word};
 ghost use Rattle.histories.specs.Histories.{Read};
 ghost use Rattle.histories.specs.Pieces.{CutRight};
 ghost use Rattle.histories.specs.Spelling.{ReadsBack};
 
-use crate::token::{TokenFault, next_token, read_letter};
-use std::alloc::Global;
+use crate::letters::Letters;
+use crate::token::TokenFault;
+use std::alloc::{AllocFailed, Global};
 
 /// The first wrong token of a line, as it is written there.
 #[derive(Clone, Copy)]
@@ -19,6 +21,22 @@ pub struct WrongToken<'a> {
 pub enum LineFault<'a> {
     Token(WrongToken<'a>),
     Memory,
+}
+
+impl<'a> From<WrongToken<'a>> for LineFault<'a> {
+    ghost from_gives = { λ wrong r. r ≡ Token wrong };
+
+    fn from(wrong: WrongToken<'a>) -> LineFault<'a> {
+        LineFault::Token(wrong)
+    }
+}
+
+impl From<AllocFailed<u8>> for LineFault<'_> {
+    ghost from_gives = { λ _ r. r ≡ Memory };
+
+    fn from(_e: AllocFailed<u8>) -> Self {
+        LineFault::Memory
+    }
 }
 
 /// The history that a line tells, over a number of letters.
@@ -36,17 +54,8 @@ fn read_tokens(heap: Global, line: &[u8], letters: u8) -> Result<Vec<u8>, LineFa
     ensures { Read letters line.now result }
 {
     let mut word = Vec::new(heap);
-    let mut rest = line;
-    while let Some((text, after)) = next_token(rest) {
-        match read_letter(text, letters) {
-            Ok(letter) => {
-                if word.push(letter).is_err() {
-                    return Err(LineFault::Memory);
-                }
-            }
-            Err(fault) => return Err(LineFault::Token(WrongToken { text, fault })),
-        }
-        rest = after;
+    for letter in Letters::new(line, letters) {
+        word.push(letter?)?;
     }
     Ok(word)
 }

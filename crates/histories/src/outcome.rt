@@ -28,16 +28,15 @@ pub fn follow_line<'a, A: Automaton<V = YesNo>>(
 {
     let _sound = rule.states();
     let letters = rule.letters() as u8;
-    let word = match read_line(heap, line, letters) {
-        Ok(word) => word,
-        Err(LineFault::Token(wrong)) => return Ok(Outcome::Unreadable(wrong)),
-        Err(LineFault::Memory) => return Err(AllocError),
-    };
-    match word_verdict(rule, word.as_slice()) {
-        Ok(verdict) => Ok(Outcome::Followed {
-            letters: word.len(),
-            verdict,
-        }),
-        Err(_) => unreachable(),
+    match read_line(heap, line, letters) {
+        Ok(word) => {
+            let verdict = word_verdict(rule, word.as_slice()).unwrap();
+            Ok(Outcome::Followed {
+                letters: word.len(),
+                verdict,
+            })
+        }
+        Err(LineFault::Token(wrong)) => Ok(Outcome::Unreadable(wrong)),
+        Err(LineFault::Memory) => Err(AllocError),
     }
 }

@@ -1,13 +1,10 @@
-use Rattle.std.proofs.Common.{◌≡◌, length, vec_items, vec_len}
-use Rattle.histories.specs.Tokens.{tokens}
-use Rattle.histories.specs.Histories.{history_of, letters_after}
-use Rattle.histories.proofs.Reading.{Begun}
+use Rattle.std.proofs.Common.{vec_items}
+use Rattle.histories.proofs.Taking.{Taken}
 use Rattle.histories.proofs.line.read_tokens.Given as goal
 
-abbrev pub invariant-loop-text : goal.invariant-loop-text
-invariant-loop-text l =
-    (history_of l.letters l.line ≡ letters_after l.letters (vec_items l.word) (tokens l.rest))
-    × Begun l.letters (tokens l.line) (vec_len l.word) (tokens l.rest)
-
-abbrev pub decreases-loop-text : goal.decreases-loop-text
-decreases-loop-text l = length l.rest
+abbrev pub invariant-loop-letter : goal.invariant-loop-letter
+invariant-loop-letter l = record {
+  can : (goal.iterator-loop-letter).can_next l.letter-iterator;
+  ends : (goal.iterator-loop-letter).is_finite l.letter-iterator;
+  taken : Taken l.letters l.line (vec_items l.word) l.letter-iterator;
+}

@@ -1,0 +1,40 @@
+ghost use Rattle.std.specs.Iterator.{at_most};
+ghost use Rattle.std.specs.Prelude.{◌≡◌, length};
+
+use crate::line::WrongToken;
+use crate::token::{next_token, read_letter};
+
+/// The letters of a line, over a number of letters, one token after another.
+#[derive(Drop)]
+pub(crate) struct Letters<'a> {
+    rest: &'a [u8],
+    below: u8,
+}
+
+impl<'a> Letters<'a> {
+    ghost use Rattle.histories.specs.Taking.{line_left, letters_below};
+
+    pub(crate) fn new(line: &'a [u8], below: u8) -> Letters<'a>
+        ensures rest { line_left result ≡ line.now }
+        ensures below { letters_below result ≡ below }
+    {
+        Letters { rest: line, below }
+    }
+}
+
+impl<'a> Iterator for Letters<'a> {
+    ghost use Rattle.histories.specs.Taking.{TakesLetter, line_left};
+
+    type Item = Result<u8, WrongToken<'a>>;
+
+    ghost next_gives = { TakesLetter };
+
+    ghost remaining = { λ s. at_most (length (line_left s)) };
+
+    fn next(&mut self) -> Option<Self::Item> {
+        let (text, after) = next_token(self.rest)?;
+        let letter = read_letter(text, self.below).map_err(|fault| WrongToken { text, fault });
+        self.rest = after;
+        Some(letter)
+    }
+}
