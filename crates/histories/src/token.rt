@@ -18,44 +18,18 @@ fn is_blank(byte: u8) -> bool
     matches!(byte, b' ' | b'\t' | b'\r')
 }
 
-/// How many blanks a text begins with.
-fn blanks_len(text: &[u8]) -> usize
-    ensures within { result ≤ length text.now }
-    ensures cut { tokens text.now ≡ tokens (drop result text.now) }
-    ensures stops { result < length text.now → blank (slice_index text.now result) ≡ false }
-{
-    for (i, byte) in text.iter().enumerate() {
-        if !is_blank(*byte) {
-            return i;
-        }
-    }
-    text.len()
-}
-
-/// How many bytes a text has before its first blank.
-fn token_len(text: &[u8]) -> usize
-    ensures within { result ≤ length text.now }
-    ensures cut { tokens text.now ≡ closed (take result text.now) (tokens (drop result text.now)) }
-    ensures some { 0 < length text.now → blank (slice_index text.now 0) ≡ false → 0 < result }
-{
-    for (i, byte) in text.iter().enumerate() {
-        if is_blank(*byte) {
-            return i;
-        }
-    }
-    text.len()
-}
-
 /// The first token of a text and what stands behind it, or none where there are only blanks.
 pub(crate) fn next_token(text: &[u8]) -> Option<(&[u8], &[u8])>
     ensures cut { MatchOption result (tokens text.now ≡ []) (λ p. tokens text.now ≡ p.0.now ∷ tokens p.1.now) }
     ensures shorter { IfSome result (λ p. length p.1.now < length text.now) }
 {
-    let (_, text) = text.split_at(blanks_len(text));
-    if text.is_empty() {
-        return None;
-    }
-    Some(text.split_at(token_len(text)))
+    let start = text.iter().position(|byte| !is_blank(*byte))?;
+    let (_, text) = text.split_at(start);
+    let len = text
+        .iter()
+        .position(|byte| is_blank(*byte))
+        .unwrap_or(text.len());
+    Some(text.split_at(len))
 }
 
 /// The letter that a token writes.
