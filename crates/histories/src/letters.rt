@@ -3,6 +3,15 @@ ghost use Rattle.std.specs.Prelude.{◌≡◌, length};
 
 use crate::line::WrongToken;
 use crate::token::{next_token, read_letter};
+use automata::automaton::Automaton;
+
+/// The number of letters of an automaton.
+pub(crate) fn letter_count<A: Automaton>(rule: &A) -> u8
+    ensures { result ≡ (A.meaning rule.now).k }
+{
+    let _sound = rule.states();
+    rule.letters() as u8
+}
 
 /// The letters of a line, over a number of letters, one token after another.
 #[derive(Drop)]

@@ -3,6 +3,7 @@ ghost use Rattle.histories.specs.Histories.{history_of, Begins};
 ghost use Rattle.histories.specs.Outcomes.{Came};
 ghost use Rattle.histories.specs.Tokens.{tokens};
 
+use crate::letters::letter_count;
 use crate::line::{LineFault, WrongToken, read_line};
 use automata::automaton::Automaton;
 use automata::words::word_verdict;
@@ -26,9 +27,7 @@ pub fn follow_line<'a, A: Automaton<V = YesNo>>(
 ) -> Result<Outcome<'a>, AllocError>
     ensures { MatchResult result (λ o. Came (A.meaning rule.now) (history_of (A.meaning rule.now).k line.now) o) (λ _. Begins (A.meaning rule.now).k (tokens line.now)) }
 {
-    let _sound = rule.states();
-    let letters = rule.letters() as u8;
-    match read_line(heap, line, letters) {
+    match read_line(heap, line, letter_count(rule)) {
         Ok(word) => {
             let verdict = word_verdict(rule, word.as_slice()).unwrap();
             Ok(Outcome::Followed {

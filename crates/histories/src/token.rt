@@ -24,12 +24,9 @@ pub(crate) fn next_token(text: &[u8]) -> Option<(&[u8], &[u8])>
     ensures shorter { IfSome result (λ p. length p.1.now < length text.now) }
 {
     let start = text.iter().position(|byte| !is_blank(*byte))?;
-    let (_, text) = text.split_at(start);
-    let len = text
-        .iter()
-        .position(|byte| is_blank(*byte))
-        .unwrap_or(text.len());
-    Some(text.split_at(len))
+    let text = &text[start..];
+    let end = text.iter().position(|byte| is_blank(*byte));
+    Some(text.split_at(end.unwrap_or(text.len())))
 }
 
 /// The letter that a token writes.

@@ -1,7 +1,7 @@
 ghost use Rattle.histories.specs.Histories.{history_of};
 ghost use Rattle.histories.specs.Outcomes.{Walked};
 
-use crate::letters::Letters;
+use crate::letters::{Letters, letter_count};
 use crate::line::WrongToken;
 use automata::automaton::Automaton;
 
@@ -17,11 +17,9 @@ pub struct Walk {
 pub fn walk_line<'a, A: Automaton>(rule: &A, line: &'a [u8]) -> Result<Walk, WrongToken<'a>>
     ensures { Walked (A.meaning rule.now) (history_of (A.meaning rule.now).k line.now) result }
 {
-    let _sound = rule.states();
-    let below = rule.letters() as u8;
     let mut state = rule.start();
     let mut letters = 0usize;
-    for letter in Letters::new(line, below) {
+    for letter in Letters::new(line, letter_count(rule)) {
         state = rule.next(state, letter? as usize);
         letters += 1;
     }
