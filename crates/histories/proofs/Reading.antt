@@ -25,14 +25,6 @@ letters_below k so_far [] w below e = let same : so_far ≡ w = cc in subst (Wor
 letters_below k so_far (token ∷ ts) w below e =
     one_more k so_far token w (λ v. letters_after k v ts) below (λ v b. letters_below k v ts w b) (letter_of k token) (letter_below k token) e
 
--- a word has no number that is no letter
-pub no_foreign : (j k : ℕ) (w v : List ℕ) (i a : ℕ) → j ≡ k → v ≡ w → Word j w → FirstForeign k v i a → ⊥
-no_foreign j k w v i a same is below f =
-    let inside : i < length w = omega (arith, f.within, ap length is) in
-    let small = All-get_or (λ (b : ℕ). b < j) w i 0 inside below in
-    let here : a ≡ get_or w i 0 = f.here ∙ ap (λ (l : List ℕ). get_or l i 0) is in
-    omega (arith, f.foreign)
-
 pub read_below : (k : ℕ) (line : List ℕ) (r : Result (Vec ℕ Global) LineFault) → Read k line r → IfOk r (λ v. Word k (vec_items v))
 read_below k line (Ok v) e = letters_below k [] (tokens line) (vec_items v) tt e
 read_below k line (Err (Token t)) e = tt

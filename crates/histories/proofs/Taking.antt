@@ -6,17 +6,17 @@ use Rattle.histories.specs.declared.line.WrongToken.{WrongToken}
 use Rattle.histories.specs.declared.token.TokenFault.{TokenFault}
 use Rattle.histories.specs.Letters.{letter_of}
 use Rattle.histories.specs.Histories.{word, wrong, with_letter, letters_after, history_of, Begins}
-use Rattle.histories.specs.Taking.{line_left, letters_below, TakesLetter}
+use Rattle.histories.specs.Taking.{line_left, letters_over, TakesLetter}
 use Rattle.histories.specs.Tokens.{tokens}
 
 -- some letters of a line over k letters are taken, and the rest of the line is left
 pub record Taken (k : ℕ) (line taken : List ℕ) (s : Letters) : Type 0 where
-  pub over : letters_below s ≡ k
+  pub over : letters_over s ≡ k
   pub reads : history_of k line ≡ letters_after k taken (tokens (line_left s))
   pub begun : (tokens (line_left s) ≡ tokens line) ⊎ Begins k (tokens line)
   pub room : length taken + length (line_left s) ≤ length line
 
-pub taken_none : (k : ℕ) (line : List ℕ) (s : Letters) → letters_below s ≡ k → line_left s ≡ line → Taken k line [] s
+pub taken_none : (k : ℕ) (line : List ℕ) (s : Letters) → letters_over s ≡ k → line_left s ≡ line → Taken k line [] s
 taken_none k line s over left = record {
   over = over;
   reads = ap (λ (l : List ℕ). history_of k l) (sym left);
@@ -36,7 +36,7 @@ module _ (k : ℕ) (line taken : List ℕ) (s t : Letters) (so_far : Taken k lin
       so_far.begun
 
   -- the history with what the next token reads as
-  next_read : (r : Result ℕ TokenFault) (token : List ℕ) → tokens (line_left s) ≡ token ∷ tokens (line_left t) → letter_of (letters_below s) token ≡ r → history_of k line ≡ with_letter taken r token (λ v. letters_after k v (tokens (line_left t)))
+  next_read : (r : Result ℕ TokenFault) (token : List ℕ) → tokens (line_left s) ≡ token ∷ tokens (line_left t) → letter_of (letters_over s) token ≡ r → history_of k line ≡ with_letter taken r token (λ v. letters_after k v (tokens (line_left t)))
   next_read r token cut is =
       so_far.reads ∙ ap (letters_after k taken) cut
       ∙ ap (λ (x : Result ℕ TokenFault). with_letter taken x token (λ v. letters_after k v (tokens (line_left t)))) (ap (λ (n : ℕ). letter_of n token) (sym so_far.over) ∙ is)

@@ -1,5 +1,6 @@
-ghost use Rattle.std.specs.Iterator.{at_most};
 ghost use Rattle.std.specs.Prelude.{◌≡◌, length};
+ghost use Rattle.std.specs.Iterator.{at_most};
+ghost use Rattle.histories.specs.Taking.{line_left, letters_over, TakesLetter};
 
 use crate::line::WrongToken;
 use crate::token::{next_token, read_letter};
@@ -21,19 +22,15 @@ pub(crate) struct Letters<'a> {
 }
 
 impl<'a> Letters<'a> {
-    ghost use Rattle.histories.specs.Taking.{line_left, letters_below};
-
     pub(crate) fn new(line: &'a [u8], below: u8) -> Letters<'a>
         ensures rest { line_left result ≡ line.now }
-        ensures below { letters_below result ≡ below }
+        ensures below { letters_over result ≡ below }
     {
         Letters { rest: line, below }
     }
 }
 
 impl<'a> Iterator for Letters<'a> {
-    ghost use Rattle.histories.specs.Taking.{TakesLetter, line_left};
-
     type Item = Result<u8, WrongToken<'a>>;
 
     ghost next_gives = { TakesLetter };

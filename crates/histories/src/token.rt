@@ -1,5 +1,5 @@
-ghost use Rattle.std.specs.Prelude.{◌≡◌, ◌<◌, ◌≤◌, false, [], ◌∷◌, length, take, drop, IfSome, MatchOption, slice_index};
-ghost use Rattle.histories.specs.Tokens.{blank, closed, tokens};
+ghost use Rattle.std.specs.Prelude.{◌≡◌, ◌<◌, [], ◌∷◌, length, IfSome, MatchOption};
+ghost use Rattle.histories.specs.Tokens.{blank, tokens};
 ghost use Rattle.histories.specs.Letters.{letter_of};
 
 /// What is wrong with a token.

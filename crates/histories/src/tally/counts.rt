@@ -1,5 +1,5 @@
-ghost use Rattle.std.specs.Prelude.{◌≡◌, ◌+◌, ◌-◌, ◌^◌, ◌<◌, true, List, [], ◌∷◌, ◌++◌, is_ok};
-ghost use Rattle.histories.specs.Tallies.{total, Counted, Grown, Tells};
+ghost use Rattle.std.specs.Prelude.{◌≡◌, ◌+◌, true, List, [], ◌∷◌, ◌++◌, is_ok};
+ghost use Rattle.histories.specs.Tallies.{total, Counted, Tells};
 
 use super::{Tally, TallyFull};
 use crate::outcome::Outcome;
