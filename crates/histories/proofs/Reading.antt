@@ -1,14 +1,14 @@
 -- Reading tokens as a word.
-use Rattle.std.proofs.Common.{◌≡◌, ℕ, ◌<◌, List, [], ◌∷◌, ◌++◌, length, get_or, IfOk, Ok, Err, vec_items, Result, Vec, refl, ap, ◌∙◌, subst, arith}
+use Rattle.std.proofs.Common.{◌≡◌, ℕ, ◌<◌, List, [], ◌∷◌, ◌++◌, IfOk, Ok, Err, vec_items, Result, Vec, refl, subst, arith}
 use Rattle.std.specs.declared.alloc.Global.{Global}
-use Rattle.std.proofs.ByRecursion.{All-push, All-get_or}
+use Rattle.std.proofs.ByRecursion.{All-push}
 use Rattle.std.proofs.lemmas.Bool.Decides.{nat_tests}
-use Rattle.automata.specs.Words.{Word, FirstForeign}
+use Rattle.automata.specs.Words.{Word}
 use Rattle.histories.specs.declared.line.LineFault.{LineFault}
 use Rattle.histories.specs.declared.line.LineFault.TheVariants.{Token, Memory}
 use Rattle.histories.specs.declared.token.TokenFault.{TokenFault}
 use Rattle.histories.specs.Letters.{letter_of}
-use Rattle.histories.specs.Histories.{Reading, word, with_letter, letters_after, Begins, Read}
+use Rattle.histories.specs.Histories.{Reading, word, with_letter, letters_after, Read}
 use Rattle.histories.specs.Tokens.{tokens}
 
 -- a letter of k is below k

@@ -1,5 +1,5 @@
 -- Taking the letters of a line, one after another.
-use Rattle.std.proofs.Common.{◌≡◌, ℕ, ◌+◌, ◌≤◌, ◌⊎◌, true, List, [], ◌∷◌, ◌++◌, length, is_ok, Ok, Err, Some, None, Result, inl, inr, sym, refl, ap, ◌∙◌, ⊎_elim, subst, arith}
+use Rattle.std.proofs.Common.{◌≡◌, ℕ, ◌+◌, ◌≤◌, ◌⊎◌, List, [], ◌∷◌, ◌++◌, length, is_ok, Ok, Err, Some, None, Result, inl, inr, sym, ap, ◌∙◌, ⊎_elim, subst, arith}
 use Rattle.std.proofs.lemmas.List.{length_push}
 use Rattle.histories.specs.declared.letters.Letters.{Letters}
 use Rattle.histories.specs.declared.line.WrongToken.{WrongToken}

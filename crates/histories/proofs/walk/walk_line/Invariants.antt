@@ -1,4 +1,3 @@
-use Rattle.std.proofs.Common.{◌≡◌, ◌∷◌}
 use Rattle.histories.proofs.Walking.{Walking}
 use Rattle.histories.proofs.walk.walk_line.Given as goal
 
