@@ -4,5 +4,4 @@ pub mod Reading
 pub mod Telling
 pub mod Cutting
 pub mod RoundTrip
-pub mod Taking
 pub mod Walking

@@ -6,5 +6,5 @@ pub loop-letter-preserved : goal.loop-letter-preserved
 loop-letter-preserved g c = record {
   can = tt;
   ends = tt;
-  walked = walk_on _ _ _ _ _ _ _ _ _ c.loop-letter.invariant.walked (search rules) c.next-state.ensures;
+  walked = walk_on _ _ _ _ _ _ _ _ c.loop-letter.invariant.walked (search rules) c.next-state.ensures;
 }

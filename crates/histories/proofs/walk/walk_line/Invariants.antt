@@ -5,5 +5,5 @@ abbrev pub invariant-loop-letter : goal.invariant-loop-letter
 invariant-loop-letter g l = record {
   can : (goal.iterator-loop-letter g).can_next l.letter-iterator;
   ends : (goal.iterator-loop-letter g).is_finite l.letter-iterator;
-  walked : Walking (g.A.Automaton.meaning l.rule) (g.A.Automaton.meaning l.rule).k l.line l.letter-iterator l.state l.letters;
+  walked : Walking (g.A.Automaton.meaning l.rule) l.line l.letter-iterator l.state l.letters;
 }
