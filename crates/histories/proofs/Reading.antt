@@ -17,7 +17,7 @@ letter_below k token a e = grind (arith, nat_tests)
 
 one_more : (k : ℕ) (so_far token w : List ℕ) (next : List ℕ → Reading) → Word k so_far → ((v : List ℕ) → Word k v → next v ≡ word w → Word k w) → (r : Result ℕ TokenFault) → ((a : ℕ) → r ≡ Ok a → a < k) → with_letter so_far r token next ≡ word w → Word k w
 one_more k so_far token w next below rec (Ok a) small e = rec (so_far ++ a ∷ []) (All-push (λ (b : ℕ). b < k) so_far a below (small a refl)) e
-one_more k so_far token w next below rec (Err fault) small e = let z : ◌≡◌ {A = ℕ} 0 1 = cc in absurd (omega arith)
+one_more k so_far token w next below rec (Err fault) small e = cc
 
 -- the history of a line is a word
 pub letters_below : (k : ℕ) (so_far : List ℕ) (ts : List (List ℕ)) (w : List ℕ) → Word k so_far → letters_after k so_far ts ≡ word w → Word k w

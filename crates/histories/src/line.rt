@@ -49,7 +49,8 @@ pub fn read_line(heap: Global, line: &[u8], letters: u8) -> Result<Vec<u8>, Line
     read_tokens(heap, line, letters)
 }
 
-/// Reads a token after another, up to the first that is wrong.
+/// Reads a token after another, up to the first that is wrong. What else `read_line` promises follows
+/// from this clause.
 fn read_tokens(heap: Global, line: &[u8], letters: u8) -> Result<Vec<u8>, LineFault<'_>>
     ensures { Read letters line.now result }
 {

@@ -11,6 +11,7 @@ use automata::yes_no::YesNo;
 use std::alloc::{AllocError, Global};
 
 /// What came of one line.
+// Kept: no Result, since a line that is not readable is counted and printed too, and no `?` passes it up.
 #[derive(Clone, Copy)]
 pub enum Outcome<'a> {
     /// Its history was followed: how many letters that has, and what the automaton says of it.
