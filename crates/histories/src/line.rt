@@ -49,10 +49,11 @@ pub fn read_line(heap: Global, line: &[u8], letters: u8) -> Result<Vec<u8>, Line
     read_tokens(heap, line, letters)
 }
 
-/// Reads a token after another, up to the first that is wrong. What else `read_line` promises follows
-/// from this clause.
+/// Reads a token after another, up to the first that is wrong. It stands apart from `read_line`, so
+/// that what follows from `read` is proved once, and not at each return.
 fn read_tokens(heap: Global, line: &[u8], letters: u8) -> Result<Vec<u8>, LineFault<'_>>
-    ensures { Read letters line.now result }
+    ensures read { Read letters line.now result }
+    ensures below { IfOk result (λ v. Word letters v.items) }
 {
     let mut word = Vec::new(heap);
     for letter in Letters::new(line, letters) {
