@@ -6,7 +6,7 @@ use crate::line::WrongToken;
 use crate::token::{next_token, read_letter};
 use automata::automaton::Automaton;
 
-/// The number of letters of an automaton.
+/// The number of letters of an automaton, as a byte.
 pub(crate) fn letter_count<A: Automaton>(rule: &A) -> u8
     ensures { result ≡ (A.meaning rule.now).k }
 {
