@@ -1,8 +1,6 @@
 pub mod Scanning
 pub mod Values
-pub mod Reading
 pub mod Telling
-pub mod Printing
 pub mod Cutting
 pub mod RoundTrip
 pub mod Walking

@@ -16,7 +16,6 @@ use Rattle.histories.specs.Histories.{word, letters_after, history_of, Read}
 use Rattle.histories.specs.Spelling.{spelled, ReadsBack}
 use Rattle.histories.specs.Pieces.{Solid}
 use Rattle.histories.proofs.Cutting.{Unbroken, first_token, last_token}
-use Rattle.histories.proofs.Values.{below}
 
 own : IsNumeralModel (λ ds. all_ascii_digits ds ≡ true) value
 own = numerals_by_fold _ tells_all_ascii_digits value_after (record { empty = λ _. refl; more = λ _ _ _ _. refl })
@@ -43,8 +42,9 @@ module _ (k : ℕ) (fits : k < 2 ^ 64) where
 
   letter_back : (a : ℕ) → a < k → letter_of k (decimal a) ≡ Ok a
   letter_back a h =
-      let is = digits_value-decimal own a (omega arith) in
-      below k (decimal a) (letter_digits a h) (omega arith) ∙ ap Ok is
+      let digits = letter_digits a h in
+      let is : value (decimal a) ≡ a = digits_value-decimal own a (omega arith) in
+      grind (arith, nat_tests)
 
   letters_back : (so_far w : List ℕ) → Word k w → letters_after k so_far (map decimal w) ≡ word (so_far ++ w)
   letters_back so_far [] l = ap word (sym (append-nil so_far))
@@ -58,5 +58,5 @@ module _ (k : ℕ) (fits : k < 2 ^ 64) where
   reads_back line (Ok v) read w l is = let back : history_of k line ≡ word w = ap (history_of k) is ∙ spelled_back w l in cc
   reads_back line (Err (Token t)) read w l is =
       let back : history_of k line ≡ word w = ap (history_of k) is ∙ spelled_back w l in
-      let z : ◌≡◌ {A = ℕ} 0 1 = cc in omega arith
+      cc
   reads_back line (Err Memory) read w l is = tt

@@ -1,11 +1,8 @@
 -- Reading digits, with a number that stops at 255.
-use Rattle.std.proofs.Common.{◌≡◌, ℕ, ◌+◌, ◌-◌, ◌*◌, ◌<◌, ◌≤◌, min, Bool, true, false, ◌&&◌, List, [], ◌∷◌, length, get_or, drop, Ok, Err, sym, ap, ◌∙◌, ⊎_elim, arith}
-use Rattle.std.specs.Str.{all_ascii_digits}
-use Rattle.std.proofs.lemmas.List.{at_drop_more, at_drop_all}
-use Rattle.std.proofs.lemmas.Bool.{cases_lt, cond-true, cond-false, lt-ltb, le-ltb}
-use Rattle.std.specs.Char.{is_ascii_digit}
-use Rattle.histories.specs.declared.token.TokenFault.TheVariants.{NotBelow, NoNumber}
-use Rattle.histories.specs.Letters.{value_after, value, letter_of}
+use Rattle.std.proofs.Common.{◌≡◌, ℕ, ◌+◌, ◌-◌, ◌*◌, ◌<◌, ◌≤◌, min, List, [], ◌∷◌, length, get_or, drop, sym, ap, ◌∙◌, ⊎_elim, arith}
+use Rattle.std.proofs.lemmas.List.{at_drop_more}
+use Rattle.std.proofs.lemmas.Bool.{cases_lt}
+use Rattle.histories.specs.Letters.{value_after}
 
 -- more digits make a number no smaller
 grows : (n : ℕ) (cs : List ℕ) → n ≤ value_after n cs
@@ -23,26 +20,3 @@ stopped n m cs e =
 -- one digit more
 pub digit_more : (token : List ℕ) (i n m : ℕ) → i < length token → m ≡ min (n * 10 + (get_or token i 0 - 48)) 255 → min (value_after n (drop i token)) 255 ≡ min (value_after m (drop (i + 1) token)) 255
 digit_more token i n m h e = ap (λ (x : ℕ). min x 255) (at_drop_more (value_after n) token i 0 h) ∙ sym (stopped _ m (drop (i + 1) token) e)
-
-pub digit_ends : (token : List ℕ) (i n : ℕ) → length token ≤ i → value_after n (drop i token) ≡ n
-digit_ends token i n h = at_drop_all (value_after n) token i h
-
--- a digit leaves it to the digits behind it whether all are digits
-pub digits_more : (token : List ℕ) (i : ℕ) → i < length token → is_ascii_digit (get_or token i 0) ≡ true → all_ascii_digits (drop i token) ≡ all_ascii_digits (drop (i + 1) token)
-digits_more token i h d = at_drop_more all_ascii_digits token i 0 h ∙ ap (λ (b : Bool). b && all_ascii_digits (drop (i + 1) token)) d
-
-pub digits_stop : (token : List ℕ) (i : ℕ) → i < length token → is_ascii_digit (get_or token i 0) ≡ false → all_ascii_digits (drop i token) ≡ false
-digits_stop token i h d = at_drop_more all_ascii_digits token i 0 h ∙ ap (λ (b : Bool). b && all_ascii_digits (drop (i + 1) token)) d
-
-pub digits_end : (token : List ℕ) (i : ℕ) → length token ≤ i → all_ascii_digits (drop i token) ≡ true
-digits_end token i h = at_drop_all all_ascii_digits token i h
-
--- the three answers
-pub no_number : (k : ℕ) (token : List ℕ) → all_ascii_digits token ≡ false → letter_of k token ≡ Err NoNumber
-no_number k token d = cond-false _ _ _ d
-
-pub below : (k : ℕ) (token : List ℕ) → all_ascii_digits token ≡ true → value token < k → letter_of k token ≡ Ok (value token)
-below k token d h = cond-true _ _ _ d ∙ cond-true _ _ _ (lt-ltb (value token) k h)
-
-pub not_below : (k : ℕ) (token : List ℕ) → all_ascii_digits token ≡ true → k ≤ value token → letter_of k token ≡ Err NotBelow
-not_below k token d h = cond-true _ _ _ d ∙ cond-false _ _ _ (le-ltb (value token) k h)

@@ -1,41 +1,30 @@
--- Following the letters of a line as they are read.
-use Rattle.std.proofs.Common.{◌≡◌, ℕ, ◌+◌, ◌<◌, ◌≤◌, List, [], ◌∷◌, ◌++◌, length, Ok, Err, Result, sym, refl, ap, ◌∙◌, arith}
+-- Following the letters of a line as they are taken.
+use Rattle.std.proofs.Common.{rules, ◌≡◌, ℕ, ◌+◌, ◌≤◌, List, [], ◌∷◌, ◌++◌, length, Ok, Some, sym, ap, ◌∙◌, arith}
 use Rattle.std.proofs.lemmas.List.{length_push}
 use Rattle.automata.specs.Meaning.{Meaning}
 use Rattle.automata.specs.Words.{follow}
 use Rattle.automata.proofs.Following.{follow-append}
-use Rattle.histories.specs.declared.token.TokenFault.{TokenFault}
-use Rattle.histories.specs.Letters.{letter_of}
-use Rattle.histories.specs.Histories.{word, wrong, with_letter, letters_after, history_of}
+use Rattle.histories.specs.declared.letters.Letters.{Letters}
+use Rattle.histories.specs.Histories.{letters_after, history_of}
+use Rattle.histories.specs.Taking.{line_left, letters_over, TakesLetter}
 use Rattle.histories.specs.Tokens.{tokens}
 
--- the walk has taken the letters of some tokens, and the rest of the line is left
-pub record Walking {V : Type 0} (m : Meaning V) (k : ℕ) (line rest : List ℕ) (state count : ℕ) : Type 0 where
-  pub taken : List ℕ
-  pub reads : history_of k line ≡ letters_after k taken (tokens rest)
-  pub stands : state ≡ follow m m.start taken
-  pub counted : count ≡ length taken
-  pub room : count + length rest ≤ length line
+-- the walk has taken some letters of the line, and the rest of the line is left
+pub record Walking {V : Type 0} (m : Meaning V) (line : List ℕ) (s : Letters) (state count : ℕ) : Type 0 where
+  pub letters : List ℕ
+  pub over : letters_over s ≡ m.k
+  pub reads : history_of m.k line ≡ letters_after m.k letters (tokens (line_left s))
+  pub stands : state ≡ follow m m.start letters
+  pub counted : count ≡ length letters
+  pub room : count + length (line_left s) ≤ length line
 
-module _ {V : Type 0} (m : Meaning V) (k : ℕ) (line : List ℕ) where
-  pub walk_begins : Walking m k line line m.start 0
-  walk_begins = record { taken = []; reads = refl; stands = refl; counted = refl; room = omega arith }
-
-  -- one token more
-  pub walk_on : (rest after token : List ℕ) (state count a next : ℕ) → Walking m k line rest state count → tokens rest ≡ token ∷ tokens after → length after < length rest → letter_of k token ≡ Ok a → next ≡ m.next state a → Walking m k line after next (count + 1)
-  walk_on rest after token state count a next w cut shorter letter led = record {
-    taken = w.taken ++ a ∷ [];
-    reads = w.reads ∙ ap (letters_after k w.taken) cut ∙ ap (λ (r : Result ℕ TokenFault). with_letter w.taken r token (λ v. letters_after k v (tokens after))) letter;
-    stands = led ∙ ap (λ (s : ℕ). m.next s a) w.stands ∙ sym (follow-append m m.start w.taken (a ∷ []));
-    counted = omega (arith, length_push w.taken a, w.counted);
-    room = omega (arith, w.room);
-  }
-
-  -- no token is left
-  pub walk_ends : (rest : List ℕ) (state count : ℕ) (w : Walking m k line rest state count) → tokens rest ≡ [] → history_of k line ≡ word w.taken
-  walk_ends rest state count w none = w.reads ∙ ap (letters_after k w.taken) none
-
-  -- a token is wrong
-  pub walk_stops : (rest token : List ℕ) (ts : List (List ℕ)) (state count : ℕ) (fault : TokenFault) → Walking m k line rest state count → tokens rest ≡ token ∷ ts → letter_of k token ≡ Err fault → history_of k line ≡ wrong fault token
-  walk_stops rest token ts state count fault w cut is =
-      w.reads ∙ ap (letters_after k w.taken) cut ∙ ap (λ (r : Result ℕ TokenFault). with_letter w.taken r token (λ v. letters_after k v ts)) is
+-- one letter more
+pub walk_on : {V : Type 0} (m : Meaning V) (line : List ℕ) (s t : Letters) (state count a next : ℕ) → Walking m line s state count → TakesLetter s (Some (Ok a)) t → next ≡ m.next state a → Walking m line t next (count + 1)
+walk_on m line s t state count a next w step led = record {
+  letters = w.letters ++ a ∷ [];
+  over = search rules;
+  reads = search rules;
+  stands = led ∙ ap (λ (s : ℕ). m.next s a) w.stands ∙ sym (follow-append m m.start w.letters (a ∷ []));
+  counted = omega (arith, length_push w.letters a, w.counted);
+  room = omega (arith, w.room, step.2);
+}

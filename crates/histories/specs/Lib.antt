@@ -2,6 +2,7 @@ pub mod Tokens
 pub mod Pieces
 pub mod Letters
 pub mod Histories
+pub mod Taking
 pub mod Outcomes
 pub mod Tallies
 pub mod Reports

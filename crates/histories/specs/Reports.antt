@@ -1,6 +1,7 @@
 -- What is printed.
 use Rattle.std.specs.Prelude.{ℕ, ◌+◌, ◌/◌, ◌%◌, Bool, false, cond, not, ◌&&◌, List, [], ◌∷◌, ◌++◌, codes, decimal, ◌==◌, nat_lt}
 use Rattle.std.specs.Fmt.{digit_glyph}
+use Rattle.std.specs.List.{flat_map}
 use Rattle.automata.specs.YesNo.{spelt}
 use Rattle.histories.specs.declared.outcome.Outcome.{Outcome}
 use Rattle.histories.specs.declared.outcome.Outcome.TheVariants.{Followed, Unreadable}
@@ -18,8 +19,7 @@ abbrev pub printed_byte : ℕ → List ℕ
 printed_byte b = cond (visible b) (b ∷ []) (92 ∷ 120 ∷ digit_glyph false (b / 16) ∷ digit_glyph false (b % 16) ∷ [])
 
 abbrev pub printed : List ℕ → List ℕ
-printed [] = []
-printed (b ∷ bs) = printed_byte b ++ printed bs
+printed token = flat_map printed_byte token
 
 -- What is wrong with a token, by the number of letters of the automaton.
 abbrev pub complaint : ℕ → TokenFault → List ℕ → List ℕ

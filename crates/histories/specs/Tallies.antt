@@ -1,5 +1,5 @@
 -- What a tally tells.
-use Rattle.std.specs.Prelude.{◌≡◌, ℕ, ◌+◌, ◌-◌, ◌^◌, cond, List, [], ◌∷◌, length, Ok, Err, Result, ◌==◌}
+use Rattle.std.specs.Prelude.{◌≡◌, ℕ, ◌+◌, ◌-◌, ◌^◌, cond, List, length, sum_by, Ok, Err, Result, ◌==◌}
 use Rattle.automata.specs.declared.yes_no.YesNo.TheVariants.{Yes, No}
 use Rattle.histories.specs.declared.outcome.Outcome.{Outcome}
 use Rattle.histories.specs.declared.outcome.Outcome.TheVariants.{Followed, Unreadable}
@@ -27,8 +27,7 @@ total t = t.yes + t.no + t.unreadable
 
 -- How many of the lines.
 abbrev pub times : (Outcome → ℕ) → List Outcome → ℕ
-times f [] = 0
-times f (o ∷ os) = f o + times f os
+times f os = sum_by f os
 
 -- The tally is that of the lines.
 pub record Tells (t : Tally) (os : List Outcome) : Type 0 where

@@ -1,5 +1,5 @@
-ghost use Rattle.std.specs.Prelude.{◌≡◌, ◌<◌, false, Some};
-ghost use Rattle.std.specs.Fmt.{WritesOnOk, digit_glyph};
+ghost use Rattle.std.specs.Prelude.{◌≡◌, Some};
+ghost use Rattle.std.specs.Fmt.{WritesOnOk};
 ghost use Rattle.histories.specs.Reports.{visible, printed_byte, printed, complaint, report, counts, summary};
 
 use crate::line::WrongToken;
@@ -35,19 +35,7 @@ pub struct Counts(pub Tally);
 fn is_visible(byte: u8) -> bool
     ensures { result ≡ visible byte }
 {
-    byte > b' ' && byte < 127 && byte != b'\\'
-}
-
-/// The digit to base 16 of a number.
-fn hex_digit(n: u8) -> char
-    requires { n < 16 }
-    ensures { result ≡ digit_glyph false n }
-{
-    if n < 10 {
-        (b'0' + n) as char
-    } else {
-        (b'a' + (n - 10)) as char
-    }
+    byte.is_ascii_graphic() && byte != b'\\'
 }
 
 /// Prints one byte.
@@ -55,11 +43,10 @@ fn put_byte<W: fmt::Write>(byte: u8, f: &mut fmt::Formatter<W>) -> fmt::Result
     ensures { WritesOnOk W.write_str_gives f.old result (printed_byte byte) f.new }
 {
     if is_visible(byte) {
-        return f.write_char(byte as char);
+        f.write_char(byte as char)
+    } else {
+        write!(f, "\\x{byte:02x}")
     }
-    let high = hex_digit(byte / 16);
-    let low = hex_digit(byte % 16);
-    write!(f, "\\x{high}{low}")
 }
 
 impl fmt::Display for TokenText<'_> {
@@ -77,9 +64,9 @@ impl fmt::Display for Complaint<'_> {
     ghost output = { λ c. Some (complaint c.below c.wrong.fault c.wrong.text.now) };
 
     fn fmt<W: fmt::Write>(&self, f: &mut fmt::Formatter<W>) -> fmt::Result {
-        let token = TokenText(self.wrong.text);
-        let below = self.below;
-        match self.wrong.fault {
+        let Complaint { wrong, below } = *self;
+        let token = TokenText(wrong.text);
+        match wrong.fault {
             TokenFault::NotBelow => write!(f, "letter {token} is not below {below}"),
             TokenFault::NoNumber => write!(f, "`{token}` is no number"),
         }
@@ -90,16 +77,16 @@ impl fmt::Display for LineReport<'_> {
     ghost output = { λ l. Some (report l.number l.below l.outcome) };
 
     fn fmt<W: fmt::Write>(&self, f: &mut fmt::Formatter<W>) -> fmt::Result {
-        let number = self.number;
-        let below = self.below;
-        match self.outcome {
+        let LineReport {
+            number,
+            below,
+            outcome,
+        } = *self;
+        match outcome {
             Outcome::Followed { letters, verdict } => {
                 write!(f, "{number}: {letters} letters, {verdict}")
             }
-            Outcome::Unreadable(wrong) => {
-                let complaint = Complaint { wrong, below };
-                write!(f, "{number}: {complaint}")
-            }
+            Outcome::Unreadable(wrong) => write!(f, "{number}: {}", Complaint { wrong, below }),
         }
     }
 }
@@ -108,9 +95,11 @@ impl fmt::Display for Counts {
     ghost output = { λ c. Some (counts c.0) };
 
     fn fmt<W: fmt::Write>(&self, f: &mut fmt::Formatter<W>) -> fmt::Result {
-        let yes = self.0.yes;
-        let no = self.0.no;
-        let unreadable = self.0.unreadable;
+        let Tally {
+            yes,
+            no,
+            unreadable,
+        } = self.0;
         write!(f, "{yes} yes, {no} no, {unreadable} not readable")
     }
 }
@@ -119,9 +108,12 @@ impl fmt::Display for Tally {
     ghost output = { λ t. Some (summary t) };
 
     fn fmt<W: fmt::Write>(&self, f: &mut fmt::Formatter<W>) -> fmt::Result {
-        let followed = self.yes + self.no;
-        let histories = followed + self.unreadable;
-        let counts = Counts(*self);
-        write!(f, "{histories} histories: {followed} followed, {counts}")
+        let histories = self.histories();
+        let followed = self.followed();
+        write!(
+            f,
+            "{histories} histories: {followed} followed, {}",
+            Counts(*self)
+        )
     }
 }

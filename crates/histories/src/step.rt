@@ -63,11 +63,9 @@ pub fn next_report<'a, A: Automaton<V = YesNo>>(
 {
     let outcome = follow_line(heap, rule, line)?;
     tally.count(&outcome)?;
-    let number = tally.histories();
-    let below = rule.letters();
     Ok(LineReport {
-        number,
-        below,
+        number: tally.histories(),
+        below: rule.letters(),
         outcome,
     })
 }

@@ -1,5 +1,5 @@
-ghost use Rattle.std.specs.Prelude.{◌≡◌, ◌<◌, ◌≤◌, false, [], ◌∷◌, length, take, drop, IfSome, MatchOption, slice_index};
-ghost use Rattle.histories.specs.Tokens.{blank, closed, tokens};
+ghost use Rattle.std.specs.Prelude.{◌≡◌, ◌<◌, [], ◌∷◌, length, IfSome, MatchOption};
+ghost use Rattle.histories.specs.Tokens.{blank, tokens};
 ghost use Rattle.histories.specs.Letters.{letter_of};
 
 /// What is wrong with a token.
@@ -15,35 +15,7 @@ pub enum TokenFault {
 fn is_blank(byte: u8) -> bool
     ensures { result ≡ blank byte }
 {
-    byte == b' ' || byte == b'\t' || byte == b'\r'
-}
-
-/// How many blanks a text begins with.
-fn blanks_len(text: &[u8]) -> usize
-    ensures within { result ≤ length text.now }
-    ensures cut { tokens text.now ≡ tokens (drop result text.now) }
-    ensures stops { result < length text.now → blank (slice_index text.now result) ≡ false }
-{
-    for (i, byte) in text.iter().enumerate() {
-        if !is_blank(*byte) {
-            return i;
-        }
-    }
-    text.len()
-}
-
-/// How many bytes a text has before its first blank.
-fn token_len(text: &[u8]) -> usize
-    ensures within { result ≤ length text.now }
-    ensures cut { tokens text.now ≡ closed (take result text.now) (tokens (drop result text.now)) }
-    ensures some { 0 < length text.now → blank (slice_index text.now 0) ≡ false → 0 < result }
-{
-    for (i, byte) in text.iter().enumerate() {
-        if is_blank(*byte) {
-            return i;
-        }
-    }
-    text.len()
+    matches!(byte, b' ' | b'\t' | b'\r')
 }
 
 /// The first token of a text and what stands behind it, or none where there are only blanks.
@@ -51,11 +23,10 @@ pub(crate) fn next_token(text: &[u8]) -> Option<(&[u8], &[u8])>
     ensures cut { MatchOption result (tokens text.now ≡ []) (λ p. tokens text.now ≡ p.0.now ∷ tokens p.1.now) }
     ensures shorter { IfSome result (λ p. length p.1.now < length text.now) }
 {
-    let (_, text) = text.split_at(blanks_len(text));
-    if text.is_empty() {
-        return None;
-    }
-    Some(text.split_at(token_len(text)))
+    let start = text.iter().position(|byte| !is_blank(*byte))?;
+    let text = &text[start..];
+    let end = text.iter().position(|byte| is_blank(*byte));
+    Some(text.split_at(end.unwrap_or(text.len())))
 }
 
 /// The letter that a token writes.

@@ -1,8 +1,8 @@
 ghost use Rattle.histories.specs.Histories.{history_of};
 ghost use Rattle.histories.specs.Outcomes.{Walked};
 
+use crate::letters::{Letters, letter_count};
 use crate::line::WrongToken;
-use crate::token::{next_token, read_letter};
 use automata::automaton::Automaton;
 
 /// Where an automaton stands behind the letters of a line, and how many letters these are.
@@ -17,18 +17,11 @@ pub struct Walk {
 pub fn walk_line<'a, A: Automaton>(rule: &A, line: &'a [u8]) -> Result<Walk, WrongToken<'a>>
     ensures { Walked (A.meaning rule.now) (history_of (A.meaning rule.now).k line.now) result }
 {
-    let _sound = rule.states();
-    let below = rule.letters() as u8;
     let mut state = rule.start();
     let mut letters = 0usize;
-    let mut rest = line;
-    while let Some((text, after)) = next_token(rest) {
-        match read_letter(text, below) {
-            Ok(letter) => state = rule.next(state, letter as usize),
-            Err(fault) => return Err(WrongToken { text, fault }),
-        }
+    for letter in Letters::new(line, letter_count(rule)) {
+        state = rule.next(state, letter? as usize);
         letters += 1;
-        rest = after;
     }
     Ok(Walk { state, letters })
 }

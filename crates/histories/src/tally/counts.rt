@@ -1,5 +1,5 @@
-ghost use Rattle.std.specs.Prelude.{◌≡◌, ◌+◌, ◌-◌, ◌^◌, ◌<◌, true, List, [], ◌∷◌, ◌++◌, is_ok};
-ghost use Rattle.histories.specs.Tallies.{total, Counted, Grown, Tells};
+ghost use Rattle.std.specs.Prelude.{◌≡◌, ◌+◌, true, List, [], ◌∷◌, ◌++◌, is_ok};
+ghost use Rattle.histories.specs.Tallies.{total, Counted, Tells};
 
 use super::{Tally, TallyFull};
 use crate::outcome::Outcome;
@@ -39,42 +39,17 @@ impl Tally {
         if self.histories() == u64::MAX {
             return Err(TallyFull);
         }
-        *self = self.with(outcome);
-        Ok(())
-    }
-
-    /// The tally with one more line.
-    fn with(self, outcome: &Outcome) -> Tally
-        requires { total self < 2 ^ 64 - 1 }
-        ensures { Grown self outcome.now result }
-    {
-        let Tally {
-            yes,
-            no,
-            unreadable,
-        } = self;
         match outcome {
             Outcome::Followed {
                 verdict: YesNo::Yes,
                 ..
-            } => Tally {
-                yes: yes + 1,
-                no,
-                unreadable,
-            },
+            } => self.yes += 1,
             Outcome::Followed {
                 verdict: YesNo::No,
                 ..
-            } => Tally {
-                yes,
-                no: no + 1,
-                unreadable,
-            },
-            Outcome::Unreadable(_) => Tally {
-                yes,
-                no,
-                unreadable: unreadable + 1,
-            },
+            } => self.no += 1,
+            Outcome::Unreadable(_) => self.unreadable += 1,
         }
+        Ok(())
     }
 }

@@ -1,13 +1,10 @@
-use Rattle.histories.proofs.Reading.{read_below}
+use Rattle.std.proofs.Common.{arith}
 use Rattle.histories.proofs.Cutting.{cut_right}
 use Rattle.histories.proofs.RoundTrip.{reads_back}
 use Rattle.histories.proofs.line.read_line.Goals as goal
-use Rattle.std.proofs.Common.{arith}
 
-pub returns : goal.returns
-returns c = record {
-  read = c.read_tokens.ensures;
-  below = read_below c.args.letters c.args.line.now c.read_tokens.result c.read_tokens.ensures;
-  cut = cut_right c.args.line.now;
-  back = reads_back c.args.letters (omega arith) c.args.line.now c.read_tokens.result c.read_tokens.ensures;
-}
+pub returns-clause-cut : goal.returns-clause-cut
+returns-clause-cut c = cut_right _
+
+pub returns-clause-back : goal.returns-clause-back
+returns-clause-back c = reads_back _ (omega arith) _ _ c.read_tokens.ensures.read

@@ -1,9 +1,9 @@
-use Rattle.std.proofs.Common.{length}
 use Rattle.histories.proofs.Walking.{Walking}
 use Rattle.histories.proofs.walk.walk_line.Given as goal
 
-abbrev pub invariant-loop-text : goal.invariant-loop-text
-invariant-loop-text g l = Walking (g.A.Automaton.meaning l.rule) l.below l.line l.rest l.state l.letters
-
-abbrev pub decreases-loop-text : goal.decreases-loop-text
-decreases-loop-text g l = length l.rest
+abbrev pub invariant-loop-letter : goal.invariant-loop-letter
+invariant-loop-letter g l = record {
+  can : (goal.iterator-loop-letter g).can_next l.letter-iterator;
+  ends : (goal.iterator-loop-letter g).is_finite l.letter-iterator;
+  walked : Walking (g.A.Automaton.meaning l.rule) l.line l.letter-iterator l.state l.letters;
+}
