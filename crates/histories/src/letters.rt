@@ -10,7 +10,6 @@ use automata::automaton::Automaton;
 pub(crate) fn letter_count<A: Automaton>(rule: &A) -> u8
     ensures { result ≡ (A.meaning rule.now).k }
 {
-    let _sound = rule.states();
     rule.letters() as u8
 }
 
