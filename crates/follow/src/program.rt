@@ -2,7 +2,7 @@ use crate::failure::Failure;
 use crate::heading::Heading;
 use crate::session::follow_input;
 use automata::yes_no::YesNo;
-use rulecheck::check::check;
+use rulefile::good_file::GoodFile;
 use rulefile::rule_file::RuleFile;
 use std::{env, fs};
 
@@ -19,7 +19,7 @@ fn rule_path(rt: &HostRuntime) -> Result<String, Failure> {
 pub(crate) fn run(rt: &HostRuntime) -> Result<(), Failure> {
     let path = rule_path(rt)?;
     let file = fs::read(rt, path.as_str()).map_err(|error| Failure::File { path, error })?;
-    let header = check::<YesNo>(&file, None)?;
-    println!(rt; "{}", Heading(header))?;
-    follow_input(rt, &RuleFile::<YesNo>::make(&file))
+    let good = GoodFile::read::<YesNo>(&file, None)?;
+    println!(rt; "{}", Heading(good.header))?;
+    follow_input(rt, &RuleFile::<YesNo>::from(good))
 }
