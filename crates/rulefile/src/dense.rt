@@ -42,6 +42,9 @@ impl<'a> Transitions<'a> for Dense<'a> {
 
     fn next(&self, state: usize, letter: usize) -> usize {
         let GoodFile { file, header, .. } = self.good;
-        two(file, header.transitions + 2 * (state * header.letters + letter))
+        two(
+            file,
+            header.transitions + 2 * (state * header.letters + letter),
+        )
     }
 }
