@@ -1,5 +1,5 @@
 -- What the automata over a file mean, by its bytes.
-use Rattle.std.specs.Prelude.{ℕ, Option}
+use Rattle.std.specs.Prelude.{ℕ, Bool, Option, is_some}
 use Rattle.automata.specs.Meaning.{Meaning}
 use Rattle.ruleformat.specs.declared.format.Kind.{Kind}
 use Rattle.ruleformat.specs.declared.format.Kind.TheVariants as kinds
@@ -19,6 +19,10 @@ good_meaning reads closing g = table_of g.header.kind reads closing g.file.now g
 -- a table means what its file does, and the closed rule where it has none
 abbrev pub table_meaning : {T V : Type 0} → (ℕ → Option V) → V → (T → GoodFile) → FileTable T V → Meaning V
 table_meaning reads closing file_of t = or_closed closing t.transitions (λ x. good_meaning reads closing (file_of x))
+
+-- whether it has one
+abbrev pub is_made : {T V : Type 0} → FileTable T V → Bool
+is_made t = is_some t.transitions
 
 abbrev pub dense_meaning : {V : Type 0} → (ℕ → Option V) → V → FileTable Dense V → Meaning V
 dense_meaning reads closing t = table_meaning reads closing (λ x. x.good) t

@@ -14,7 +14,7 @@ use Rattle.rulefile.specs.Meanings.{good_meaning, table_meaning, file_meaning}
 
 module _ {V : Type 0} (reads : ℕ → Option V) (closing : V) where
   good_sound : (g : GoodFile) → Sound closing (good_meaning reads closing g)
-  good_sound g = table_sound reads closing g.file.now g.header g.ranged g.header.kind g.full g.right
+  good_sound g = table_sound reads closing g.file.now g.header g.ranged g.header.kind g.said g.right
 
   or_closed_sound : {X : Type 0} (o : Option X) (meaning : X → Meaning V) → ((x : X) → Sound closing (meaning x)) → Sound closing (or_closed closing o meaning)
   or_closed_sound None meaning sound = closed_sound closing

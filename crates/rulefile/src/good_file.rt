@@ -1,6 +1,6 @@
-ghost use Rattle.std.specs.Prelude.{◌≡◌, ◌*◌, length};
-ghost use Rattle.ruleformat.specs.declared.format.Kind.TheVariants as kinds;
-ghost use Rattle.ruleformat.specs.Layout.{Closes};
+ghost use Rattle.std.specs.Prelude.{◌≡◌, length};
+ghost use Rattle.std.specs.Coded.{Coded-set};
+ghost use Rattle.ruleformat.specs.Layout.{Closes, header_of};
 ghost use Rattle.ruleformat.specs.Faults.{AllRight};
 ghost use Rattle.ruleformat.specs.Tables.{InRanges};
 ghost use Rattle.ruleformat.specs.Once.{AllRight-prop};
@@ -15,9 +15,9 @@ use ruleformat::format::{Header, Kind};
 pub struct GoodFile<'a> {
     pub file: &'a [u8],
     pub header: Header,
+    ghost said: { header ≡ header_of file.now header.kind } by { Coded-set header-code header (header_of file.now header.kind) },
     ghost ranged: { InRanges header },
     ghost closes: { Closes (length file.now) header.kind header },
-    ghost full: { header.kind ≡ kinds.Dense → header.entries ≡ header.states * header.letters },
     ghost right: { AllRight header.kind file.now header } by { AllRight-prop header.kind file.now header },
 }
 
@@ -37,8 +37,8 @@ impl<'a> GoodFile<'a> {
         Ok(GoodFile { file, header })
     }
 
-    /// The verdict of a state, and the closing one where there is no such state.
-    pub fn verdict<V: Verdict>(&self, state: usize) -> V
+    // The verdict of a state, and the closing one where there is no such state.
+    pub(crate) fn verdict<V: Verdict>(&self, state: usize) -> V
         ensures { result ≡ verdict_at V.Verdict.reads V.Verdict.closing self.now.file.now self.now.header state }
     {
         if state >= self.header.states {

@@ -13,16 +13,16 @@ pub struct FileTable<'a, T, V> {
 }
 
 impl<'a, T: Transitions<'a>, V: Verdict> FileTable<'a, T, V> {
-    ghost use Rattle.std.specs.Prelude.{◌≡◌, is_some, Some, Decides};
+    ghost use Rattle.std.specs.Prelude.{◌≡◌, Some, Decides};
     ghost use Rattle.ruleformat.specs.declared.format.Kind.TheVariants as kinds;
     ghost use Rattle.ruleformat.specs.Faults.{Good};
     ghost use Rattle.ruleformat.specs.Makes.{Makes, FollowsEdges};
-    ghost use Rattle.rulefile.specs.Meanings.{table_meaning};
+    ghost use Rattle.rulefile.specs.Meanings.{table_meaning, is_made};
 
     /// The file's table, or the closed rule where the check refuses the file as one of the kind.
     pub fn make(file: &'a [u8]) -> FileTable<'a, T, V>
         ensures leads { T.kind ≡ kinds.Edges → FollowsEdges V.Verdict.reads file.now (table_meaning V.Verdict.reads V.Verdict.closing T.file_of result) }
-        ensures there { Decides (is_some result.transitions) (Good V.Verdict.reads (Some T.kind) file.now T.kind) }
+        ensures there { Decides (is_made result) (Good V.Verdict.reads (Some T.kind) file.now T.kind) }
         ensures made { Makes T.kind V.Verdict.reads V.Verdict.closing file.now (table_meaning V.Verdict.reads V.Verdict.closing T.file_of result) }
     {
         let transitions = match GoodFile::read::<V>(file, Some(T::kind())) {

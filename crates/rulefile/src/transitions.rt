@@ -7,7 +7,7 @@ use crate::good_file::GoodFile;
 use ruleformat::format::Kind;
 
 /// The transitions of a good file, of one of the two kinds.
-pub trait Transitions<'a>: Drop {
+pub(crate) trait Transitions<'a>: Drop {
     /// The kind.
     ghost kind: { TableKind };
 

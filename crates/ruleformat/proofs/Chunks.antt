@@ -1,19 +1,15 @@
 -- The edges of a file in the list of their bytes.
-use Rattle.std.proofs.Common.{◌≡◌, ℕ, zero, suc, ◌+◌, ◌-◌, ◌*◌, ◌<◌, ◌≤◌, ltb, true, false, List, [], length, get_or, drop, refl, sym, ap, ◌∙◌, subst, arith}
-use Rattle.std.proofs.lemmas.Bool.{ltb-true, ltb-false}
+use Rattle.std.proofs.Common.{◌≡◌, ℕ, zero, suc, ◌+◌, ◌*◌, ◌<◌, List, length, get_or, drop, refl, ap, ◌∙◌, arith}
 use Rattle.std.proofs.lemmas.List.{get_or-take, get_or-drop}
 use Rattle.std.specs.Simd.{first_chunks}
 use Rattle.std.specs.List.{between}
-use Rattle.std.specs.List.Sorted.{IsNonDecreasingBy, IsPartitionPoint}
-use Rattle.std.proofs.lemmas.List.Edits.{get_or-between, length-between}
-use Rattle.ruleformat.specs.declared.format.Edge.{Edge}
+use Rattle.std.proofs.lemmas.List.Edits.{get_or-between}
 use Rattle.ruleformat.specs.declared.format.Header.{Header}
 use Rattle.ruleformat.specs.declared.format.Kind.TheVariants.{Edges}
 use Rattle.ruleformat.specs.Bytes.{edge_at}
 use Rattle.ruleformat.specs.Layout.{Closes}
-use Rattle.ruleformat.specs.Faults.{AllRight, edge_of}
-use Rattle.ruleformat.specs.EdgeWords.{IndexOf, edge_bytes}
-use Rattle.ruleformat.proofs.Finding.{states_rise, index_is, lasts_rise}
+use Rattle.ruleformat.specs.Faults.{edge_of}
+use Rattle.ruleformat.specs.EdgeWords.{edge_bytes}
 
 pub length-chunks : {X : Type 0} (n k : ℕ) (xs : List X) → length (first_chunks n k xs) ≡ k
 length-chunks n zero xs = refl

@@ -33,9 +33,11 @@ module _ {V : Type 0} (reads : ℕ → Option V) (closing : V) (f : List ℕ) (h
   }
 
   -- the table of a good file is an automaton
-  pub table_sound : (kd : Kind) → (kd ≡ Dense → h.entries ≡ h.states * h.letters) → AllRight kd f h → Sound closing (table_of kd reads closing f h)
-  table_sound Dense full right = transitions_sound (target f h) (λ s a p q. right (s * h.letters + a) (let place = row_place s h.states a h.letters p q in let count = full refl in omega arith))
-  table_sound Edges full right = transitions_sound (lead (edge_of f h) h.entries) (λ s a p q. lead_within f h right s a p)
+  pub table_sound : (kd : Kind) → h ≡ header_of f kd → AllRight kd f h → Sound closing (table_of kd reads closing f h)
+  table_sound Dense said right =
+      let count = subst (λ (x : Header). x.entries ≡ x.states * x.letters) (sym said) refl in
+      transitions_sound (target f h) (λ s a p q. right (s * h.letters + a) (let place = row_place s h.states a h.letters p q in omega arith))
+  table_sound Edges said right = transitions_sound (lead (edge_of f h) h.entries) (λ s a p q. lead_within f h right s a p)
 
 -- within the ranges, what is made of an edge list leads as its edges do
 pub follows_edges : {V : Type 0} (reads : ℕ → Option V) (closing : V) (f : List ℕ) (m : Meaning V) → Makes Edges reads closing f m → FollowsEdges reads f m
