@@ -25,34 +25,20 @@ impl Parts<'_> {
         self.header.transitions + self.header.kind.entry_size() * i
     }
 
-    // Whether target i is a state.
-    fn target_right(&self, i: usize) -> bool
-        requires dense { self.now.header.kind ≡ kinds.Dense }
-        requires within { i < self.now.header.entries }
-        ensures { IsTrue result ↔ Right kinds.Dense self.now.file.now self.now.header i }
-    {
-        two(self.file, self.entry_place(i)) < self.header.states
-    }
-
-    // Whether edge i is one of the table's and comes behind the edge before it.
-    fn edge_right(&self, i: usize) -> bool
-        requires edges { self.now.header.kind ≡ kinds.Edges }
-        requires within { i < self.now.header.entries }
-        ensures { IsTrue result ↔ Right kinds.Edges self.now.file.now self.now.header i }
-    {
-        let e = edge(self.file, self.entry_place(i));
-        in_table(&self.header, &e)
-            && (i == 0 || rises(&edge(self.file, self.entry_place(i - 1)), &e))
-    }
-
-    // Whether entry i is as the rules of its kind say.
+    // Whether entry i is as the rules of its kind say: a target is a state; an edge is one of the
+    // table's, and comes behind the edge before it.
     fn entry_right(&self, i: usize) -> bool
         requires { i < self.now.header.entries }
         ensures { IsTrue result ↔ Right self.now.header.kind self.now.file.now self.now.header i }
     {
+        let place = self.entry_place(i);
         match self.header.kind {
-            Kind::Dense => self.target_right(i),
-            Kind::Edges => self.edge_right(i),
+            Kind::Dense => two(self.file, place) < self.header.states,
+            Kind::Edges => {
+                let e = edge(self.file, place);
+                in_table(&self.header, &e)
+                    && (i == 0 || rises(&edge(self.file, self.entry_place(i - 1)), &e))
+            }
         }
     }
 
