@@ -46,10 +46,10 @@ module _ (g : GoodFile) (kind : g.header.kind ≡ kinds.Edges) where
   abbrev es : ℕ → Edge
   es = edge_of g.file.now g.header
 
-  pub edges_close : Closes (length g.file.now) kinds.Edges g.header
+  edges_close : Closes (length g.file.now) kinds.Edges g.header
   edges_close = subst (λ (k : Kind). Closes (length g.file.now) k g.header) kind g.closes
 
-  pub edges_right : AllRight kinds.Edges g.file.now g.header
+  edges_right : AllRight kinds.Edges g.file.now g.header
   edges_right = subst (λ (k : Kind). AllRight k g.file.now g.header) kind g.right
 
   module _ (edges : List (List ℕ)) (all : edges ≡ edge_bytes g.file.now g.header) where
