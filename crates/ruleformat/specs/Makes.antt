@@ -1,17 +1,24 @@
 -- What is made of a file.
-use Rattle.std.specs.Prelude.{◌≡◌, ℕ, ◌<◌, List, ◌++◌, Some, None, Option}
+use Rattle.std.specs.Prelude.{◌≡◌, ℕ, ◌<◌, List, ◌++◌, Some, None, Option, refl}
 use Rattle.automata.specs.Meaning.{Meaning, closed_rule}
 use Rattle.ruleformat.specs.declared.format.Kind.{Kind}
-use Rattle.ruleformat.specs.declared.format.Kind.TheVariants.{Edges}
+use Rattle.ruleformat.specs.declared.format.Kind.TheVariants.{Dense, Edges}
 use Rattle.ruleformat.specs.declared.format.Header.{Header}
 use Rattle.ruleformat.specs.Layout.{header_of}
 use Rattle.ruleformat.specs.Faults.{Good}
 use Rattle.ruleformat.specs.EdgeWords.{Leads}
-use Rattle.ruleformat.specs.Tables.{with_transitions, transitions_of}
+use Rattle.ruleformat.specs.Tables.{with_transitions, transitions_of, dense_table, edge_table}
 
--- the table of a file of kind kd: `dense_table` or `edge_table`
+-- the table of a file of kind kd
 abbrev pub table_of : {V : Type 0} → Kind → (ℕ → Option V) → V → List ℕ → Header → Meaning V
 table_of kd reads closing f h = with_transitions (transitions_of kd f h) reads closing f h
+
+-- that is the dense table, or the table of the edges
+pub dense_table_is : {V : Type 0} (reads : ℕ → Option V) (closing : V) (f : List ℕ) (h : Header) → table_of Dense reads closing f h ≡ dense_table reads closing f h
+dense_table_is reads closing f h = refl
+
+pub edge_table_is : {V : Type 0} (reads : ℕ → Option V) (closing : V) (f : List ℕ) (h : Header) → table_of Edges reads closing f h ≡ edge_table reads closing f h
+edge_table_is reads closing f h = refl
 
 -- m is what is made of a file as one of kind kd: the file's table if it is good, and else the closed rule
 abbrev pub Makes : {V : Type 0} → Kind → (ℕ → Option V) → V → List ℕ → Meaning V → Type 0
