@@ -24,6 +24,7 @@ fn examine<V: Verdict>(file: &[u8], wanted: Option<Kind>) -> Result<Header, File
 /// What a file says of itself, if all of it is good: of the wanted kind, or of either where none
 /// is named, with verdicts of `V`. Else the fault of smallest number, with its place. There is
 /// just one such answer to a file.
+#[tactic(auto, using(ruleformat::proofs::Unique::answers_same))]
 pub fn check<V: Verdict>(file: &[u8], wanted: Option<Kind>) -> Result<Header, FileFault>
     ensures answer { Answers V.Verdict.reads wanted file.now result }
     ensures only { (x : Outcome Header FileFault) → Answers V.Verdict.reads wanted file.now x → x ≡ result }

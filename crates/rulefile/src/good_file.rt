@@ -10,7 +10,8 @@ use rulecheck::check::check;
 use ruleformat::fault::FileFault;
 use ruleformat::format::{Header, Kind};
 
-/// A file that the check found good, and what it says of itself.
+/// A file and what it says of itself: its numbers are in their ranges, its parts follow one another,
+/// and its entries are right. `read` makes one of each file that the check passes.
 #[derive(Clone, Copy)]
 pub struct GoodFile<'a> {
     pub file: &'a [u8],
