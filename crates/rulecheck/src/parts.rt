@@ -1,13 +1,13 @@
 // Goes through a file's entries and verdicts, and names the first that is wrong.
 ghost use Rattle.std.specs.Prelude.{◌≡◌, ℕ, ◌<◌, ◌↔◌, IsTrue, length, MatchResult, MatchOption};
 ghost use Rattle.ruleformat.specs.declared.format.Kind.TheVariants as kinds;
-ghost use Rattle.ruleformat.specs.Layout.{Closes, entry_place, verdict_place};
+ghost use Rattle.ruleformat.specs.Layout.{Closes, entry_size, entry_place, entry_bytes, verdict_place};
 ghost use Rattle.ruleformat.specs.Faults.{InTable, Rises, Right, AllRight, Reads, FirstWrong};
 
 use automata::verdict::Verdict;
 use ruleformat::fault::{EntryFault, VerdictFault};
 use ruleformat::format::{Edge, Header, Kind};
-use ruleformat::reading::{edge, two};
+use ruleformat::reading::edge;
 
 // A file with what its trailer says of it. The entries, the verdicts and the trailer follow one another.
 #[derive(Clone, Copy)]
@@ -25,28 +25,53 @@ impl Parts<'_> {
         self.header.transitions + self.header.kind.entry_size() * i
     }
 
-    // Whether entry i is as the rules of its kind say: a target is a state; an edge is one of the
-    // table's, and comes behind the edge before it.
-    fn entry_right(&self, i: usize) -> bool
-        requires { i < self.now.header.entries }
-        ensures { IsTrue result ↔ Right self.now.header.kind self.now.file.now self.now.header i }
+    // The bytes of the entries, N each.
+    fn entries<const N: usize>(&self) -> &[[u8; N]]
+        requires { entry_size self.now.header.kind ≡ N }
+        ensures { result.now ≡ entry_bytes self.now.header.kind self.now.file.now self.now.header }
     {
-        let place = self.entry_place(i);
-        match self.header.kind {
-            Kind::Dense => two(self.file, place) < self.header.states,
-            Kind::Edges => {
-                let e = edge(self.file, place);
-                in_table(&self.header, &e)
-                    && (i == 0 || rises(&edge(self.file, self.entry_place(i - 1)), &e))
-            }
-        }
+        let (entries, _) = self.file[self.header.transitions..self.header.verdicts].as_chunks();
+        entries
     }
 
-    // The first entry that is not.
+    // The first target that is no state.
+    fn first_wrong_target(&self) -> Option<usize>
+        requires { self.now.header.kind ≡ kinds.Dense }
+        ensures { MatchOption result (AllRight kinds.Dense self.now.file.now self.now.header) (FirstWrong (Right kinds.Dense self.now.file.now self.now.header) self.now.header.entries) }
+    {
+        let states = self.header.states;
+        self.entries()
+            .iter()
+            .position(|target| u16::from_le_bytes(*target) as usize >= states)
+    }
+
+    // Whether edge i is one of the table's and comes behind the edge before it.
+    fn edge_right(&self, i: usize) -> bool
+        requires kind { self.now.header.kind ≡ kinds.Edges }
+        requires within { i < self.now.header.entries }
+        ensures { IsTrue result ↔ Right kinds.Edges self.now.file.now self.now.header i }
+    {
+        let place = self.header.transitions + 6 * i;
+        let e = edge(self.file, place);
+        in_table(&self.header, &e) && (i == 0 || rises(&edge(self.file, place - 6), &e))
+    }
+
+    // The first edge that is not.
+    fn first_wrong_edge(&self) -> Option<usize>
+        requires { self.now.header.kind ≡ kinds.Edges }
+        ensures { MatchOption result (AllRight kinds.Edges self.now.file.now self.now.header) (FirstWrong (Right kinds.Edges self.now.file.now self.now.header) self.now.header.entries) }
+    {
+        (0..self.header.entries).find(|&i| !self.edge_right(i))
+    }
+
+    // The first entry that is not as the rules of its kind say.
     fn first_wrong(&self) -> Option<usize>
         ensures { MatchOption result (AllRight self.now.header.kind self.now.file.now self.now.header) (FirstWrong (Right self.now.header.kind self.now.file.now self.now.header) self.now.header.entries) }
     {
-        (0..self.header.entries).find(|&i| !self.entry_right(i))
+        match self.header.kind {
+            Kind::Dense => self.first_wrong_target(),
+            Kind::Edges => self.first_wrong_edge(),
+        }
     }
 
     // Whether each entry is as the rules of its kind say.

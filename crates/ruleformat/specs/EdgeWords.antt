@@ -1,8 +1,9 @@
 -- Where a list of edges leads, and in which order the edges stand.
-use Rattle.std.specs.Prelude.{◌≡◌, ℕ, zero, suc, ◌<◌, ◌≤◌, Bool, cond, ◌&&◌, List, ◌==◌, nat_le, slice_index, slice_range}
-use Rattle.std.specs.Simd.{first_chunks}
+use Rattle.std.specs.Prelude.{◌≡◌, ℕ, zero, suc, ◌<◌, ◌≤◌, Bool, cond, ◌&&◌, List, ◌==◌, nat_le, slice_index}
 use Rattle.ruleformat.specs.declared.format.Edge.{Edge}
 use Rattle.ruleformat.specs.declared.format.Header.{Header}
+use Rattle.ruleformat.specs.declared.format.Kind.TheVariants.{Edges}
+use Rattle.ruleformat.specs.Layout.{entry_bytes}
 use Rattle.ruleformat.specs.Faults.{edge_of}
 
 -- an edge lists a state and a letter: it is of that state, and the letter is between its first and its last
@@ -35,4 +36,4 @@ Indexed f h firsts = (s : ℕ) → s ≤ h.states → IndexOf f h s (slice_index
 
 -- the bytes of the edges, six each
 abbrev pub edge_bytes : List ℕ → Header → List (List ℕ)
-edge_bytes f h = first_chunks 6 h.entries (slice_range f h.transitions h.verdicts)
+edge_bytes f h = entry_bytes Edges f h

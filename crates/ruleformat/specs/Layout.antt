@@ -1,6 +1,7 @@
 -- Where the parts of a file stand: entries, then verdicts, then the trailer, one directly behind the other. What stands
 -- before the entries is notes, and no definition reads it.
-use Rattle.std.specs.Prelude.{◌≡◌, ℕ, ◌+◌, ◌-◌, ◌*◌, ◌/◌, ◌<◌, ◌≤◌, List, Some, None, Option, Result, MatchResult}
+use Rattle.std.specs.Prelude.{◌≡◌, ℕ, ◌+◌, ◌-◌, ◌*◌, ◌/◌, ◌<◌, ◌≤◌, List, Some, None, Option, Result, MatchResult, slice_range}
+use Rattle.std.specs.Simd.{first_chunks}
 use Rattle.ruleformat.specs.declared.format.Kind.{Kind}
 use Rattle.ruleformat.specs.declared.format.Kind.TheVariants.{Dense, Edges}
 use Rattle.ruleformat.specs.declared.format.Trailer.{Trailer}
@@ -69,6 +70,10 @@ header_of f kd = header_at (trailer_place f) kd (trailer_of f)
 -- where an entry and a verdict stand
 abbrev pub entry_place : Kind → Header → ℕ → ℕ
 entry_place kd h i = h.transitions + entry_size kd * i
+
+-- the bytes of the entries, entry by entry
+abbrev pub entry_bytes : Kind → List ℕ → Header → List (List ℕ)
+entry_bytes kd f h = first_chunks (entry_size kd) h.entries (slice_range f h.transitions h.verdicts)
 
 abbrev pub verdict_place : Header → ℕ → ℕ
 verdict_place h s = h.verdicts + s
