@@ -18,6 +18,7 @@ pub type EdgeList<'a, V> = FileTable<'a, Edges<'a>, V>;
 pub struct Edges<'a> {
     good: GoodFile<'a>,
     edges: &'a [[u8; 6]],
+    // Kept: a fixed number of places, of which the first ones are used, since a table takes no heap.
     firsts: [usize; 129],
     ghost kind: { good.header.kind ≡ kinds.Edges },
     ghost all: { edges.now ≡ edge_bytes good.file.now good.header },
