@@ -20,9 +20,9 @@ returns-in_default c =
 pub returns-then-e-letter : goal.returns-then-e-letter
 returns-then-e-letter c =
     leads c.args.self.now c.args.state c.requires.state c.args.letter c.partition_point-found.result c.partition_point-found.ensures.partitioned (λ x r q k. search rules)
-    _ _ c.from-e.ensures c.in-Some.ensures.lookup.1 (ltb-true _ _ (sym c.in-Some.ensures.lookup.0)) c.if-e-letter.true
+    _ _ c.from-e.ensures c.in-Some.ensures.lookup.1 (ltb-true _ _ (sym c.in-Some.ensures.lookup.0)) (omega arith)
 
 pub returns-else-e-letter : goal.returns-else-e-letter
 returns-else-e-letter c =
     passes c.args.self.now c.args.state c.requires.state c.args.letter c.partition_point-found.result c.partition_point-found.ensures.partitioned (λ x r q k. search rules)
-    _ _ c.from-e.ensures c.in-Some.ensures.lookup.1 (ltb-true _ _ (sym c.in-Some.ensures.lookup.0)) c.if-e-letter.false
+    _ _ c.from-e.ensures c.in-Some.ensures.lookup.1 (ltb-true _ _ (sym c.in-Some.ensures.lookup.0)) (omega arith)
