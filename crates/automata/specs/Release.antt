@@ -4,7 +4,7 @@ use Rattle.std.proofs.Common.{arith}
 use Rattle.automata.specs.declared.release.Decision.{Decision}
 use Rattle.automata.specs.declared.release.Decision.TheVariants.{Refuse, Hold, Cut}
 use Rattle.automata.specs.declared.release.Release.{Release}
-use Rattle.automata.specs.declared.verdict.NoVerdict.{NoVerdict}
+use Rattle.automata.specs.declared.number.UnknownNumber.{UnknownNumber}
 
 abbrev pub decision_number : Decision → ℕ
 decision_number Refuse = 0
@@ -12,7 +12,7 @@ decision_number Hold = 1
 decision_number Cut = 2
 
 -- a number is converted to the decision of that number; where it is above 2, the error has the number
-abbrev pub DecidesBy : ℕ → Result Decision NoVerdict → Type 0
+abbrev pub DecidesBy : ℕ → Result Decision UnknownNumber → Type 0
 DecidesBy n r = MatchResult r (λ d. decision_number d ≡ n) (λ e. (2 < n) × (e.0 ≡ n))
 
 abbrev pub byte_of : Release → ℕ

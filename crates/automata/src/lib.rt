@@ -3,6 +3,7 @@
 
 pub mod automaton;
 pub mod closed;
+pub mod number;
 pub mod release;
 pub mod verdict;
 pub mod words;

@@ -1,6 +1,7 @@
 ghost use Rattle.std.specs.Prelude.{◌≡◌, ◌%◌, ◌<◌, ◌≤◌, is_some, MatchOption, nat_lt};
 
-use crate::verdict::{NoVerdict, Verdict};
+use crate::number::UnknownNumber;
+use crate::verdict::Verdict;
 
 /// What is done with a panel.
 #[derive(Clone, Copy, PartialEq, Eq, Debug)]
@@ -21,16 +22,16 @@ pub struct Release {
 impl TryFrom<u8> for Decision {
     ghost use Rattle.automata.specs.Release.{DecidesBy};
 
-    type Error = NoVerdict;
+    type Error = UnknownNumber;
 
     ghost try_from_gives = { DecidesBy };
 
-    fn try_from(number: u8) -> Result<Decision, NoVerdict> {
+    fn try_from(number: u8) -> Result<Decision, UnknownNumber> {
         match number {
             0 => Ok(Decision::Refuse),
             1 => Ok(Decision::Hold),
             2 => Ok(Decision::Cut),
-            _ => Err(NoVerdict(number)),
+            _ => Err(UnknownNumber(number)),
         }
     }
 }

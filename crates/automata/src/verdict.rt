@@ -1,8 +1,5 @@
-ghost use Rattle.std.specs.Prelude.{◌≡◌, ◌++◌, ℕ, Bool, Some, Option, codes, decimal};
+ghost use Rattle.std.specs.Prelude.{◌≡◌, ℕ, Bool, Option};
 ghost use Rattle.automata.specs.Verdicts.{Laws};
-
-use std::error::Error;
-use std::fmt;
 
 /// What an automaton says of a history: a type whose values can be told apart, one of which is
 /// the closing verdict, and which have a byte form. Whatever is built over automata serves every
@@ -39,17 +36,3 @@ pub trait Verdict: Drop {
 
     ghost laws: { Laws alike code reads };
 }
-
-/// A number that stands for no verdict, or for no part of one.
-#[derive(Clone, Copy, PartialEq, Eq, Debug)]
-pub struct NoVerdict(pub u8);
-
-impl fmt::Display for NoVerdict {
-    ghost output = { λ e. Some (codes "no verdict has byte " ++ decimal e.0) };
-
-    fn fmt<W: fmt::Write>(&self, f: &mut fmt::Formatter<W>) -> fmt::Result {
-        write!(f, "no verdict has byte {}", self.0)
-    }
-}
-
-impl Error for NoVerdict {}

@@ -18,8 +18,7 @@ pub fn follow_word<A: Automaton>(rule: &A, word: &[u8]) -> Result<usize, NoLette
 {
     let letters = rule.letters();
     let mut state = rule.start();
-    for (index, letter) in word.iter().enumerate() {
-        let letter = *letter;
+    for (index, &letter) in word.iter().enumerate() {
         if letter as usize >= letters {
             return Err(NoLetter { index, letter });
         }

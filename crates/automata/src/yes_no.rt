@@ -3,7 +3,8 @@ ghost use Rattle.automata.specs.Verdicts.{Converts};
 ghost use Rattle.automata.specs.YesNo.{same_byte, says_no, byte_of, verdict_of_byte, spelt};
 ghost use Rattle.automata.specs.YesNoLaws.{yes_no_laws};
 
-use crate::verdict::{NoVerdict, Verdict};
+use crate::number::UnknownNumber;
+use crate::verdict::Verdict;
 use std::fmt;
 
 /// Whether a panel may be cut.
@@ -42,15 +43,15 @@ impl Verdict for YesNo {
 }
 
 impl TryFrom<u8> for YesNo {
-    type Error = NoVerdict;
+    type Error = UnknownNumber;
 
     ghost try_from_gives = { Converts verdict_of_byte };
 
-    fn try_from(byte: u8) -> Result<YesNo, NoVerdict> {
+    fn try_from(byte: u8) -> Result<YesNo, UnknownNumber> {
         match byte {
             0 => Ok(YesNo::No),
             1 => Ok(YesNo::Yes),
-            _ => Err(NoVerdict(byte)),
+            _ => Err(UnknownNumber(byte)),
         }
     }
 }

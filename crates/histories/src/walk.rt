@@ -18,6 +18,7 @@ pub fn walk_line<'a, A: Automaton>(rule: &A, line: &'a [u8]) -> Result<Walk, Wro
     ensures { Walked (A.meaning rule.now) (history_of (A.meaning rule.now).k line.now) result }
 {
     let mut state = rule.start();
+    // Kept: a count beside the loop; a fold over state and count would say no more.
     let mut letters = 0usize;
     for letter in Letters::new(line, letter_count(rule)) {
         state = rule.next(state, letter? as usize);

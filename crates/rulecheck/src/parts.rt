@@ -2,12 +2,11 @@
 ghost use Rattle.std.specs.Prelude.{◌≡◌, ℕ, ◌<◌, ◌↔◌, IsTrue, length, MatchResult, MatchOption};
 ghost use Rattle.ruleformat.specs.declared.format.Kind.TheVariants as kinds;
 ghost use Rattle.ruleformat.specs.Layout.{Closes, entry_size, entry_place, entry_bytes, verdict_place};
-ghost use Rattle.ruleformat.specs.Faults.{InTable, Rises, Right, AllRight, Reads, FirstWrong};
+ghost use Rattle.ruleformat.specs.Faults.{InTable, Rises, Right, AllRight, Reads, FirstWrong, FindsWrong, edge_of};
 
 use automata::verdict::Verdict;
 use ruleformat::fault::{EntryFault, VerdictFault};
 use ruleformat::format::{Edge, Header, Kind};
-use ruleformat::reading::edge;
 
 // A file with what its trailer says of it. The entries, the verdicts and the trailer follow one another.
 #[derive(Clone, Copy)]
@@ -18,13 +17,6 @@ pub(crate) struct Parts<'a> {
 }
 
 impl Parts<'_> {
-    fn entry_place(&self, i: usize) -> usize
-        requires { i < self.now.header.entries }
-        ensures { result ≡ entry_place self.now.header.kind self.now.header i }
-    {
-        self.header.transitions + self.header.kind.entry_size() * i
-    }
-
     // The bytes of the entries, N each.
     fn entries<const N: usize>(&self) -> &[[u8; N]]
         requires { entry_size self.now.header.kind ≡ N }
@@ -37,12 +29,21 @@ impl Parts<'_> {
     // The first target that is no state.
     fn first_wrong_target(&self) -> Option<usize>
         requires { self.now.header.kind ≡ kinds.Dense }
-        ensures { MatchOption result (AllRight kinds.Dense self.now.file.now self.now.header) (FirstWrong (Right kinds.Dense self.now.file.now self.now.header) self.now.header.entries) }
+        ensures { FindsWrong kinds.Dense self.now.file.now self.now.header result }
     {
         let states = self.header.states;
         self.entries()
             .iter()
             .position(|target| u16::from_le_bytes(*target) as usize >= states)
+    }
+
+    // Edge i.
+    fn edge(&self, i: usize) -> Edge
+        requires kind { self.now.header.kind ≡ kinds.Edges }
+        requires within { i < self.now.header.entries }
+        ensures { result ≡ edge_of self.now.file.now self.now.header i }
+    {
+        Edge::from(self.entries()[i])
     }
 
     // Whether edge i is one of the table's and comes behind the edge before it.
@@ -51,26 +52,18 @@ impl Parts<'_> {
         requires within { i < self.now.header.entries }
         ensures { IsTrue result ↔ Right kinds.Edges self.now.file.now self.now.header i }
     {
-        let place = self.header.transitions + 6 * i;
-        let e = edge(self.file, place);
-        in_table(&self.header, &e) && (i == 0 || rises(&edge(self.file, place - 6), &e))
-    }
-
-    // The first edge that is not.
-    fn first_wrong_edge(&self) -> Option<usize>
-        requires { self.now.header.kind ≡ kinds.Edges }
-        ensures { MatchOption result (AllRight kinds.Edges self.now.file.now self.now.header) (FirstWrong (Right kinds.Edges self.now.file.now self.now.header) self.now.header.entries) }
-    {
-        (0..self.header.entries).find(|&i| !self.edge_right(i))
+        let e = self.edge(i);
+        in_table(&self.header, &e) && (i == 0 || rises(&self.edge(i - 1), &e))
     }
 
     // The first entry that is not as the rules of its kind say.
     fn first_wrong(&self) -> Option<usize>
-        ensures { MatchOption result (AllRight self.now.header.kind self.now.file.now self.now.header) (FirstWrong (Right self.now.header.kind self.now.file.now self.now.header) self.now.header.entries) }
+        ensures { FindsWrong self.now.header.kind self.now.file.now self.now.header result }
     {
         match self.header.kind {
             Kind::Dense => self.first_wrong_target(),
-            Kind::Edges => self.first_wrong_edge(),
+            // Kept: by its number, since an edge is asked for together with the one before it.
+            Kind::Edges => (0..self.header.entries).find(|&i| !self.edge_right(i)),
         }
     }
 
@@ -80,9 +73,10 @@ impl Parts<'_> {
     {
         match self.first_wrong() {
             None => Ok(()),
-            Some(i) => Err(EntryFault {
-                place: self.entry_place(i),
-            }),
+            Some(i) => {
+                let place = self.header.transitions + self.header.kind.entry_size() * i;
+                Err(EntryFault { place })
+            }
         }
     }
 

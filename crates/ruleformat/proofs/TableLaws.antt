@@ -8,7 +8,7 @@ use Rattle.ruleformat.specs.declared.format.Kind.{Kind}
 use Rattle.ruleformat.specs.declared.format.Kind.TheVariants.{Dense, Edges}
 use Rattle.ruleformat.specs.Faults.{AllRight, edge_of}
 use Rattle.ruleformat.specs.EdgeWords.{lead, Leads}
-use Rattle.ruleformat.specs.Tables.{InRanges, inside, target, with_transitions}
+use Rattle.ruleformat.specs.Tables.{InRanges, inside, target, with_transitions, dense_table, edge_table}
 use Rattle.ruleformat.specs.Layout.{header_of}
 use Rattle.ruleformat.specs.Makes.{table_of, Makes, FollowsEdges}
 use Rattle.ruleformat.proofs.Finding.{lead_within, lead_leads}
@@ -32,17 +32,24 @@ module _ {V : Type 0} (reads : ℕ → Option V) (closing : V) (f : List ℕ) (h
     verdict_past = λ s p. cond-false _ _ closing (le-ltb s _ p);
   }
 
+  pub dense_sound : h.entries ≡ h.states * h.letters → AllRight Dense f h → Sound closing (dense_table reads closing f h)
+  dense_sound full right = transitions_sound (target f h) (λ s a p q. right (s * h.letters + a) (let place = row_place s h.states a h.letters p q in omega arith))
+
+  pub edges_sound : AllRight Edges f h → Sound closing (edge_table reads closing f h)
+  edges_sound right = transitions_sound (lead (edge_of f h) h.entries) (λ s a p q. lead_within f h right s a p)
+
   -- the table of a good file is an automaton
   pub table_sound : (kd : Kind) → h ≡ header_of f kd → AllRight kd f h → Sound closing (table_of kd reads closing f h)
-  table_sound Dense said right =
-      let count = subst (λ (x : Header). x.entries ≡ x.states * x.letters) (sym said) refl in
-      transitions_sound (target f h) (λ s a p q. right (s * h.letters + a) (let place = row_place s h.states a h.letters p q in omega arith))
-  table_sound Edges said right = transitions_sound (lead (edge_of f h) h.entries) (λ s a p q. lead_within f h right s a p)
+  table_sound Dense said right = dense_sound (subst (λ (x : Header). x.entries ≡ x.states * x.letters) (sym said) refl) right
+  table_sound Edges said right = edges_sound right
 
--- within the ranges, what is made of an edge list leads as its edges do
-pub follows_edges : {V : Type 0} (reads : ℕ → Option V) (closing : V) (f : List ℕ) (m : Meaning V) → Makes Edges reads closing f m → FollowsEdges reads f m
-follows_edges reads closing f m makes good s a p q =
-    let h = header_of f Edges in
-    let here : m.next s a ≡ inside h s a (lead (edge_of f h) h.entries s a) = ap (λ (x : Meaning _). x.next s a) (makes.0 good) in
+-- within the ranges, what means a file's edges leads as they do
+pub edges_lead : {V : Type 0} (reads : ℕ → Option V) (closing : V) (f : List ℕ) (h : Header) (m : Meaning V) → m ≡ edge_table reads closing f h → AllRight Edges f h → (s a : ℕ) → s < h.states → a < h.letters → Leads f h s a (m.next s a)
+edges_lead reads closing f h m is right s a p q =
+    let here : m.next s a ≡ inside h s a (lead (edge_of f h) h.entries s a) = ap (λ (x : Meaning _). x.next s a) is in
     let led : inside h s a (lead (edge_of f h) h.entries s a) ≡ lead (edge_of f h) h.entries s a = cond-true _ _ 0 (and_from _ _ (lt-ltb s _ p) (lt-ltb a _ q)) in
-    subst (λ (x : ℕ). Leads f h s a x) (sym (here ∙ led)) (lead_leads f h good.entries s a)
+    subst (λ (x : ℕ). Leads f h s a x) (sym (here ∙ led)) (lead_leads f h right s a)
+
+-- what is made of an edge list leads as its edges do
+pub follows_edges : {V : Type 0} (reads : ℕ → Option V) (closing : V) (f : List ℕ) (m : Meaning V) → Makes Edges reads closing f m → FollowsEdges reads f m
+follows_edges reads closing f m makes good = edges_lead reads closing f (header_of f Edges) m (makes.0 good) good.entries

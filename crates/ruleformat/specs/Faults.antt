@@ -1,5 +1,5 @@
 -- When bytes are a rule file, and which fault is named where they are none.
-use Rattle.std.specs.Prelude.{◌≡◌, ℕ, ◌-◌, ◌<◌, ◌≤◌, true, List, length, is_some, Ok, Err, Option, Result, slice_index}
+use Rattle.std.specs.Prelude.{◌≡◌, ℕ, ◌-◌, ◌<◌, ◌≤◌, true, List, length, is_some, Ok, Err, Option, Result, slice_index, MatchOption}
 use Rattle.ruleformat.specs.declared.format.Kind.{Kind}
 use Rattle.ruleformat.specs.declared.format.Kind.TheVariants.{Dense, Edges}
 use Rattle.ruleformat.specs.declared.format.Header.{Header}
@@ -37,6 +37,10 @@ pub record FirstWrong (P : ℕ → Type 0) (m i : ℕ) : Type 0 where
   pub within : i < m
   pub wrong : P i → ⊥
   pub before : (j : ℕ) → j < i → P j
+
+-- r is the first entry that is not right, or none
+abbrev pub FindsWrong : Kind → List ℕ → Header → Option ℕ → Type 0
+FindsWrong kd f h r = MatchOption r (AllRight kd f h) (FirstWrong (Right kd f h) h.entries)
 
 -- what is asked before the entries are read
 pub record Headed (w : Option Kind) (f : List ℕ) (kd : Kind) : Type 0 where

@@ -6,7 +6,7 @@ use Rattle.ruleformat.specs.declared.format.Kind.{Kind}
 use Rattle.ruleformat.specs.declared.format.Kind.TheVariants.{Dense, Edges}
 use Rattle.ruleformat.specs.declared.format.Trailer.{Trailer}
 use Rattle.ruleformat.specs.declared.format.Header.{Header}
-use Rattle.ruleformat.specs.declared.format.UnknownKind.{UnknownKind}
+use Rattle.automata.specs.declared.number.UnknownNumber.{UnknownNumber}
 use Rattle.ruleformat.specs.Bytes.{trailer_place, trailer_of}
 
 -- the byte that says a kind, the length of its entries, and how many there are
@@ -15,7 +15,7 @@ kind_byte Dense = 1
 kind_byte Edges = 2
 
 -- a byte is converted to the kind that it says; where it says none, the error has the byte
-abbrev pub SaysKind : ℕ → Result Kind UnknownKind → Type 0
+abbrev pub SaysKind : ℕ → Result Kind UnknownNumber → Type 0
 SaysKind byte r = MatchResult r (λ kd. byte ≡ kind_byte kd) (λ e. ((kd : Kind) → byte ≡ kind_byte kd → ⊥) × (e.0 ≡ byte))
 
 abbrev pub entry_size : Kind → ℕ

@@ -6,8 +6,8 @@ ghost use Rattle.ruleformat.specs.Numbers.{number_of, place_of};
 use std::error::Error;
 use std::fmt;
 
-// Kept: the next two types are alike, and each says which refusal it becomes; one type would need a
-// tag, and a match on it.
+// Kept: the next two types are alike, and `?` turns each into its own refusal; one type would need a
+// tag for that, and a match on it.
 
 /// The first wrong target or edge, by its byte place.
 #[derive(Clone, Copy, PartialEq, Eq, Debug)]
@@ -39,7 +39,8 @@ pub enum FileFault {
 }
 
 impl FileFault {
-    // Kept: a variant with a place has no number to cast to; these are the numbers that are printed.
+    // Kept: each case keeps its own value, so there is no number to cast to; these are the numbers that
+    // are printed. A struct of a case and a place would ask a place of every case to come.
 
     /// The refusal's number, from 1 to 6.
     pub fn number(&self) -> u8

@@ -1,17 +1,17 @@
 // What the bytes of a rule file hold.
-ghost use Rattle.std.specs.Prelude.{◌≡◌, ◌++◌, Some, codes, decimal};
+ghost use Rattle.std.specs.Prelude.{◌≡◌, Some};
 ghost use Rattle.ruleformat.specs.Layout.{kind_byte, entry_size, SaysKind};
 ghost use Rattle.ruleformat.specs.Bytes.{edge_at};
 ghost use Rattle.ruleformat.specs.Numbers.{kind_name};
 
-use std::error::Error;
+use automata::number::UnknownNumber;
 use std::fmt;
 
 /// The two kinds of transitions: a target for each state and letter, or a list of edges.
 #[derive(Clone, Copy, PartialEq, Eq, Debug)]
 pub enum Kind {
-    Dense,
-    Edges,
+    Dense = 1,
+    Edges = 2,
 }
 
 impl Kind {
@@ -26,20 +26,16 @@ impl Kind {
     }
 }
 
-/// A byte that says no kind.
-#[derive(Clone, Copy, PartialEq, Eq, Debug)]
-pub struct UnknownKind(pub u8);
-
 impl TryFrom<u8> for Kind {
-    type Error = UnknownKind;
+    type Error = UnknownNumber;
 
     ghost try_from_gives = { SaysKind };
 
-    fn try_from(byte: u8) -> Result<Kind, UnknownKind> {
+    fn try_from(byte: u8) -> Result<Kind, UnknownNumber> {
         match byte {
             1 => Ok(Kind::Dense),
             2 => Ok(Kind::Edges),
-            _ => Err(UnknownKind(byte)),
+            _ => Err(UnknownNumber(byte)),
         }
     }
 }
@@ -48,22 +44,9 @@ impl From<Kind> for u8 {
     ghost from_gives = { λ kd byte. byte ≡ kind_byte kd };
 
     fn from(kind: Kind) -> u8 {
-        match kind {
-            Kind::Dense => 1,
-            Kind::Edges => 2,
-        }
+        kind as u8
     }
 }
-
-impl fmt::Display for UnknownKind {
-    ghost output = { λ e. Some (codes "no kind has byte " ++ decimal e.0) };
-
-    fn fmt<W: fmt::Write>(&self, f: &mut fmt::Formatter<W>) -> fmt::Result {
-        write!(f, "no kind has byte {}", self.0)
-    }
-}
-
-impl Error for UnknownKind {}
 
 impl fmt::Display for Kind {
     ghost output = { λ kd. Some (kind_name kd) };

@@ -15,19 +15,14 @@ pub fn byte(file: &[u8], at: usize) -> u8
 pub fn two(file: &[u8], at: usize) -> usize
     ensures { result ≡ two_at file.now at }
 {
-    usize::from(u16::from_le_bytes([byte(file, at), byte(file, at.saturating_add(1))]))
+    u16::from_le_bytes([0, 1].map(|i| byte(file, at.saturating_add(i)))) as usize
 }
 
 /// The number in four bytes.
 pub fn four(file: &[u8], at: usize) -> usize
     ensures { result ≡ four_at file.now at }
 {
-    u32::from_le_bytes([
-        byte(file, at),
-        byte(file, at.saturating_add(1)),
-        byte(file, at.saturating_add(2)),
-        byte(file, at.saturating_add(3)),
-    ]) as usize
+    u32::from_le_bytes([0, 1, 2, 3].map(|i| byte(file, at.saturating_add(i)))) as usize
 }
 
 /// The edge in six bytes.
@@ -35,13 +30,5 @@ pub fn four(file: &[u8], at: usize) -> usize
 pub fn edge(file: &[u8], at: usize) -> Edge
     ensures { result ≡ edge_at file.now at }
 {
-    let last = byte(file, at.saturating_add(3));
-    Edge::from([
-        byte(file, at),
-        byte(file, at.saturating_add(1)),
-        byte(file, at.saturating_add(2)),
-        last,
-        byte(file, at.saturating_add(4)),
-        byte(file, at.saturating_add(5)),
-    ])
+    Edge::from([0, 1, 2, 3, 4, 5].map(|i| byte(file, at.saturating_add(i))))
 }
