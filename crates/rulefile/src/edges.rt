@@ -51,10 +51,8 @@ impl<'a> Transitions<'a> for Edges<'a> {
     {
         let edges = edges_in(good);
         let mut firsts = [0; 129];
-        // Kept: a loop over the states that there are. `array::from_fn` would search for all that may be,
-        // and what is written by `iter_mut` is not known to a proof.
-        for state in 0..good.header.states + 1 {
-            firsts[state] = edges.partition_point(|e| Edge::from(*e).state < state);
+        for (state, first) in firsts[..=good.header.states].iter_mut().enumerate() {
+            *first = edges.partition_point(|e| Edge::from(*e).state < state);
         }
         Edges {
             good,

@@ -4,7 +4,7 @@ use Rattle.rulefile.proofs.edges.EdgesTransitions.of.Goals as goal
 
 pub loop-state-preserved : goal.loop-state-preserved
 loop-state-preserved c =
-    let xs = c.loop-state.firsts in
+    let xs = c.loop-state.first-items in
     let s = c.loop-state.state-counter in
     let found = c.partition_point.ensures in
     let within : s < length xs = omega (arith, c.loop-state.invariant.0) in (
