@@ -43,6 +43,7 @@ impl<'a> Transitions<'a> for Dense<'a> {
         self.good
     }
 
+    #[tactic(auto, using(crate::proofs::DenseFiles::leads))]
     fn next(&self, state: usize, letter: usize) -> usize {
         u16::from_le_bytes(self.targets[state * self.good.header.letters + letter]) as usize
     }
