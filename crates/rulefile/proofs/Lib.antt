@@ -1,1 +1,2 @@
+pub mod DenseFiles
 pub mod EdgeFiles

@@ -1,8 +1,11 @@
--- The automata over a file are sound.
-use Rattle.std.specs.Prelude.{ℕ, Some, None, Option}
+-- The automata over a file are sound, and each means the table of its kind.
+use Rattle.std.specs.Prelude.{◌≡◌, ℕ, Some, None, Option, refl}
+use Rattle.std.proofs.Common.{ap}
+use Rattle.ruleformat.specs.declared.format.Kind.{Kind}
+use Rattle.ruleformat.specs.Makes.{table_of}
 use Rattle.automata.specs.Meaning.{Meaning, Sound}
 use Rattle.automata.specs.ClosedRule.{closed_sound}
-use Rattle.ruleformat.specs.Tables.{or_closed}
+use Rattle.ruleformat.specs.Tables.{or_closed, dense_table, edge_table}
 use Rattle.ruleformat.proofs.TableLaws.{table_sound}
 use Rattle.rulefile.specs.declared.good_file.GoodFile.{GoodFile}
 use Rattle.rulefile.specs.declared.table.FileTable.{FileTable}
@@ -10,7 +13,7 @@ use Rattle.rulefile.specs.declared.dense.Dense.{Dense}
 use Rattle.rulefile.specs.declared.edges.Edges.{Edges}
 use Rattle.rulefile.specs.declared.rule_file.RuleFile.{RuleFile}
 use Rattle.rulefile.specs.declared.rule_file.RuleFile.TheVariants as file
-use Rattle.rulefile.specs.Meanings.{good_meaning, table_meaning, file_meaning}
+use Rattle.rulefile.specs.Meanings.{good_meaning, table_meaning, dense_meaning, edge_meaning, file_meaning}
 
 module _ {V : Type 0} (reads : ℕ → Option V) (closing : V) where
   good_sound : (g : GoodFile) → Sound closing (good_meaning reads closing g)
@@ -26,3 +29,21 @@ module _ {V : Type 0} (reads : ℕ → Option V) (closing : V) where
   pub file_meaning_sound : (r : RuleFile V) → Sound closing (file_meaning reads closing r)
   file_meaning_sound (file.Dense t) = table_meaning_sound (λ (x : Dense). x.good) t
   file_meaning_sound (file.Edges t) = table_meaning_sound (λ (x : Edges). x.good) t
+
+  same_or_closed : {X : Type 0} (o : Option X) (p q : X → Meaning V) → ((x : X) → p x ≡ q x) → or_closed closing o p ≡ or_closed closing o q
+  same_or_closed None p q same = refl
+  same_or_closed (Some x) p q same = same x
+
+  -- a table of the dense kind means the dense table of its file
+  dense_good : (x : Dense) → good_meaning reads closing x.good ≡ dense_table reads closing x.good.file.now x.good.header
+  dense_good x = ap (λ (kd : Kind). table_of kd reads closing x.good.file.now x.good.header) x.kind
+
+  pub dense_meaning_is : (t : FileTable Dense V) → dense_meaning reads closing t ≡ or_closed closing t.transitions (λ x. dense_table reads closing x.good.file.now x.good.header)
+  dense_meaning_is t = same_or_closed t.transitions _ _ dense_good
+
+  -- and one of the other kind means the table of its edges
+  edge_good : (x : Edges) → good_meaning reads closing x.good ≡ edge_table reads closing x.good.file.now x.good.header
+  edge_good x = ap (λ (kd : Kind). table_of kd reads closing x.good.file.now x.good.header) x.kind
+
+  pub edge_meaning_is : (t : FileTable Edges V) → edge_meaning reads closing t ≡ or_closed closing t.transitions (λ x. edge_table reads closing x.good.file.now x.good.header)
+  edge_meaning_is t = same_or_closed t.transitions _ _ edge_good

@@ -25,15 +25,6 @@ pub struct Edges<'a> {
     ghost indexed: { Indexed good.file.now good.header firsts } by { Indexed-prop good.file.now good.header firsts },
 }
 
-// The bytes of the edges, six each.
-fn edges_in<'a>(good: GoodFile<'a>) -> &'a [[u8; 6]]
-    requires { good.header.kind ≡ kinds.Edges }
-    ensures { result.now ≡ edge_bytes good.entry.file.now good.entry.header }
-{
-    let (edges, _) = good.file[good.header.transitions..good.header.verdicts].as_chunks();
-    edges
-}
-
 impl<'a> Transitions<'a> for Edges<'a> {
     ghost kind = { kinds.Edges };
 
@@ -49,12 +40,10 @@ impl<'a> Transitions<'a> for Edges<'a> {
         requires { good.header.kind ≡ kinds.Edges }
         ensures { result.good ≡ good.entry }
     {
-        let edges = edges_in(good);
+        let edges = good.entries();
         let mut firsts = [0; 129];
-        // Kept: a loop over the states that there are. `array::from_fn` would search for all that may be,
-        // and what is written by `iter_mut` is not known to a proof.
-        for state in 0..good.header.states + 1 {
-            firsts[state] = edges.partition_point(|e| Edge::from(*e).state < state);
+        for (state, first) in firsts[..=good.header.states].iter_mut().enumerate() {
+            *first = edges.partition_point(|e| Edge::from(*e).state < state);
         }
         Edges {
             good,

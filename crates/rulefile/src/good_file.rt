@@ -1,6 +1,6 @@
 ghost use Rattle.std.specs.Prelude.{◌≡◌, length};
 ghost use Rattle.std.specs.Coded.{Coded-set};
-ghost use Rattle.ruleformat.specs.Layout.{Closes, header_of};
+ghost use Rattle.ruleformat.specs.Layout.{Closes, header_of, entry_size, entry_bytes};
 ghost use Rattle.ruleformat.specs.Faults.{AllRight};
 ghost use Rattle.ruleformat.specs.Tables.{InRanges};
 ghost use Rattle.ruleformat.specs.Once.{AllRight-prop};
@@ -36,6 +36,15 @@ impl<'a> GoodFile<'a> {
     {
         let header = check::<V>(file, wanted)?;
         Ok(GoodFile { file, header })
+    }
+
+    // The bytes of the entries, N each.
+    pub(crate) fn entries<const N: usize>(&self) -> &'a [[u8; N]]
+        requires { entry_size self.now.header.kind ≡ N }
+        ensures { result.now ≡ entry_bytes self.now.header.kind self.now.file.now self.now.header }
+    {
+        let (entries, _) = self.file[self.header.transitions..self.header.verdicts].as_chunks();
+        entries
     }
 
     // The verdict of a state, and the closing one where there is no such state.

@@ -1,6 +1,7 @@
 use crate::good_file::GoodFile;
 use crate::transitions::Transitions;
 use automata::automaton::Automaton;
+use automata::closed::ClosedRule;
 use automata::verdict::Verdict;
 use std::marker::PhantomData;
 
@@ -56,21 +57,21 @@ impl<'a, T: Transitions<'a>, W: Verdict> Automaton for FileTable<'a, T, W> {
     fn states(&self) -> usize {
         match &self.transitions {
             Some(t) => t.good().header.states,
-            None => 1,
+            None => ClosedRule::<W>::new().states(),
         }
     }
 
     fn letters(&self) -> usize {
         match &self.transitions {
             Some(t) => t.good().header.letters,
-            None => 1,
+            None => ClosedRule::<W>::new().letters(),
         }
     }
 
     fn start(&self) -> usize {
         match &self.transitions {
             Some(t) => t.good().header.start,
-            None => 0,
+            None => ClosedRule::<W>::new().start(),
         }
     }
 

@@ -37,7 +37,7 @@ module _ (f : List ℕ) (h : Header) where
       byte_at n h.entries i j (between h.transitions h.verdicts f) d lt small ∙ get_or-between f h.transitions h.verdicts (n * i + j) 0 (omega arith) ∙ ap (λ (q : ℕ). get_or f q 0) at
 
   -- the target in the bytes at i is target i of the file
-  target_in : Closes (length f) Dense h → (i : ℕ) (d : List ℕ) → i < h.entries → two_at (get_or (entry_bytes Dense f h) i d) 0 ≡ two_at f (entry_place Dense h i)
+  pub target_in : Closes (length f) Dense h → (i : ℕ) (d : List ℕ) → i < h.entries → two_at (get_or (entry_bytes Dense f h) i d) 0 ≡ two_at f (entry_place Dense h i)
   target_in closes i d lt =
       let at = entry_place Dense h i in
       λ t. byte_of Dense closes i 0 at d lt (omega arith) (omega arith) t + byte_of Dense closes i 1 (at + 1) d lt (omega arith) refl t * 256
