@@ -18,6 +18,7 @@ pub trait Verdict: Drop {
     ghost reads: { ℕ → Option Self };
 
     /// Two verdicts are the same exactly if their bytes are equal.
+    // Kept: what is the same is the type's own law, and need not be what a derived `==` says.
     #[tactic(auto, using(crate::proofs::Sameness::same_is))]
     fn same(&self, other: &Self) -> bool
         ensures { result ≡ alike self.now other.now }

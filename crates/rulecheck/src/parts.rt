@@ -62,7 +62,7 @@ impl Parts<'_> {
     {
         match self.header.kind {
             Kind::Dense => self.first_wrong_target(),
-            // Kept: by its number, since an edge is asked for together with the one before it.
+            // Kept: by its number; `windows(2)` has no window for the first edge, which is checked too.
             Kind::Edges => (0..self.header.entries).find(|&i| !self.edge_right(i)),
         }
     }
@@ -105,5 +105,5 @@ fn in_table(h: &Header, e: &Edge) -> bool
 fn rises(d: &Edge, e: &Edge) -> bool
     ensures { IsTrue result ↔ Rises d.now e.now }
 {
-    d.state < e.state || d.state == e.state && d.last < e.first
+    (d.state, d.last) < (e.state, e.first)
 }

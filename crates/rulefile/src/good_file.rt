@@ -39,7 +39,7 @@ impl<'a> GoodFile<'a> {
     }
 
     // The bytes of the entries, N each.
-    // Kept: the check has the same for itself. A public one would ask its caller for the width.
+    // Kept: the check has the same; a public one would answer an option, to be unwrapped by each caller.
     pub(crate) fn entries<const N: usize>(&self) -> &'a [[u8; N]]
         requires { entry_size self.now.header.kind ≡ N }
         ensures { result.now ≡ entry_bytes self.now.header.kind self.now.file.now self.now.header }

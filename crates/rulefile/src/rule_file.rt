@@ -34,7 +34,7 @@ impl<'a, V: Verdict> RuleFile<'a, V> {
         }
     }
 
-    /// The file's kind; dense where the file was refused.
+    /// The kind of the table; dense where `make` was given a file that is refused.
     pub fn kind(&self) -> Kind
         ensures { result ≡ kind_of self.now }
     {
@@ -57,6 +57,7 @@ impl<'a, V: Verdict> From<GoodFile<'a>> for RuleFile<'a, V> {
     }
 }
 
+// Kept: one match a question; a `dyn` that is handed out would hide what it calls, and take a box.
 impl<'a, W: Verdict> Automaton for RuleFile<'a, W> {
     type V = W;
 

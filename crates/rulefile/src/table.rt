@@ -26,6 +26,7 @@ impl<'a, T: Transitions<'a>, V: Verdict> FileTable<'a, T, V> {
         ensures there { Decides (is_made result) (Good V.Verdict.reads (Some T.kind) file.now T.kind) }
         ensures made { Makes T.kind V.Verdict.reads V.Verdict.closing file.now (table_meaning V.Verdict.reads V.Verdict.closing T.file_of result) }
     {
+        // Kept: a closure for `map` would need clauses of its own, as `T::of` asks for the kind.
         let transitions = match GoodFile::read::<V>(file, Some(T::kind())) {
             Ok(good) => Some(T::of(good)),
             Err(_) => None,

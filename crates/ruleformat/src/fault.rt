@@ -6,9 +6,7 @@ ghost use Rattle.ruleformat.specs.Numbers.{number_of, place_of};
 use std::error::Error;
 use std::fmt;
 
-// Kept: the next two types are alike, and `?` turns each into its own refusal; one type would need a
-// tag for that, and a match on it.
-
+// Kept: the next two types are alike, and `?` turns each into its own refusal, with no tag to match.
 /// The first wrong target or edge, by its byte place.
 #[derive(Clone, Copy, PartialEq, Eq, Debug)]
 pub struct EntryFault {
@@ -39,9 +37,7 @@ pub enum FileFault {
 }
 
 impl FileFault {
-    // Kept: each case keeps its own value, so there is no number to cast to; these are the numbers that
-    // are printed. A struct of a case and a place would ask a place of every case to come.
-
+    // Kept: a case with its place is no number; clauses and tests name each case by its name.
     /// The refusal's number, from 1 to 6.
     pub fn number(&self) -> u8
         ensures { result ≡ number_of self.now }

@@ -61,8 +61,7 @@ impl fmt::Display for Kind {
 
 /// The numbers of a file's last 16 bytes, as they stand there. A distance counts back from the
 /// first of these bytes.
-// Kept: kind and version are bytes here, since nothing is known of them yet; `Kind::try_from` makes
-// the kind.
+// Kept: kind and version are bytes, as nothing is known of them yet; `Kind::try_from` makes a kind.
 #[derive(Clone, Copy, PartialEq, Eq, Debug)]
 pub struct Trailer {
     pub transitions: usize,
