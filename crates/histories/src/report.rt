@@ -38,15 +38,17 @@ fn is_visible(byte: u8) -> bool
     byte.is_ascii_graphic() && byte != b'\\'
 }
 
-/// Prints one byte.
+/// Prints one byte. Each digit is written by itself, so that a writer that keeps what it is given can take one and not the
+/// other.
 fn put_byte<W: fmt::Write>(byte: u8, f: &mut fmt::Formatter<W>) -> fmt::Result
     ensures { WritesOnOk W.write_str_gives f.old result (printed_byte byte) f.new }
 {
     if is_visible(byte) {
-        f.write_char(byte as char)
-    } else {
-        write!(f, "\\x{byte:02x}")
+        return f.write_char(byte as char);
     }
+    let high = char::from_digit(u32::from(byte / 16), 16).unwrap();
+    let low = char::from_digit(u32::from(byte % 16), 16).unwrap();
+    write!(f, "\\x{high}{low}")
 }
 
 impl fmt::Display for TokenText<'_> {

@@ -1,12 +1,15 @@
--- The automata over a file are sound, and each means the table of its kind.
-use Rattle.std.specs.Prelude.{◌≡◌, ℕ, Some, None, Option, refl}
-use Rattle.std.proofs.Common.{ap}
+-- The automata over a file are sound, each means the table of its kind, and that of a list of edges leads as they do.
+use Rattle.std.specs.Prelude.{◌≡◌, ℕ, ◌<◌, Some, None, Option, refl}
+use Rattle.std.proofs.Common.{ap, ◌∙◌, subst}
 use Rattle.ruleformat.specs.declared.format.Kind.{Kind}
+use Rattle.ruleformat.specs.declared.format.Kind.TheVariants as kinds
+use Rattle.ruleformat.specs.EdgeWords.{Leads}
+use Rattle.ruleformat.specs.Faults.{AllRight}
 use Rattle.ruleformat.specs.Makes.{table_of}
 use Rattle.automata.specs.Meaning.{Meaning, Sound}
 use Rattle.automata.specs.ClosedRule.{closed_sound}
 use Rattle.ruleformat.specs.Tables.{or_closed, dense_table, edge_table}
-use Rattle.ruleformat.proofs.TableLaws.{table_sound}
+use Rattle.ruleformat.proofs.TableLaws.{table_sound, edges_lead}
 use Rattle.rulefile.specs.declared.good_file.GoodFile.{GoodFile}
 use Rattle.rulefile.specs.declared.table.FileTable.{FileTable}
 use Rattle.rulefile.specs.declared.dense.Dense.{Dense}
@@ -47,3 +50,10 @@ module _ {V : Type 0} (reads : ℕ → Option V) (closing : V) where
 
   pub edge_meaning_is : (t : FileTable Edges V) → edge_meaning reads closing t ≡ or_closed closing t.transitions (λ x. edge_table reads closing x.good.file.now x.good.header)
   edge_meaning_is t = same_or_closed t.transitions _ _ edge_good
+
+  -- within the ranges, what means a good file of the other kind leads as its edges do
+  pub good_leads : (g : GoodFile) (m : Meaning V) → m ≡ good_meaning reads closing g → g.header.kind ≡ kinds.Edges → (s a : ℕ) → s < g.header.states → a < g.header.letters → Leads g.file.now g.header s a (m.next s a)
+  good_leads g m is edges =
+      edges_lead reads closing g.file.now g.header m
+      (is ∙ ap (λ (kd : Kind). table_of kd reads closing g.file.now g.header) edges)
+      (subst (λ (kd : Kind). AllRight kd g.file.now g.header) edges g.right)

@@ -1,8 +1,9 @@
 ghost use Rattle.std.specs.Prelude.{◌≡◌, None};
 ghost use Rattle.ruleformat.specs.declared.format.Kind.{Kind as TableKind};
+ghost use Rattle.ruleformat.specs.declared.format.Kind.TheVariants as kinds;
 ghost use Rattle.ruleformat.specs.Faults.{Good};
 ghost use Rattle.ruleformat.specs.Makes.{MakesEither};
-ghost use Rattle.rulefile.specs.Meanings.{good_meaning, file_meaning, kind_of};
+ghost use Rattle.rulefile.specs.Meanings.{file_meaning, holds, kind_of, IsOf};
 ghost use Rattle.rulefile.specs.Soundness.{file_meaning_sound};
 
 use crate::dense::{Dense, DenseTable};
@@ -27,6 +28,8 @@ impl<'a, V: Verdict> RuleFile<'a, V> {
     pub fn make(file: &'a [u8]) -> RuleFile<'a, V>
         ensures made { MakesEither V.Verdict.reads V.Verdict.closing file.now (file_meaning V.Verdict.reads V.Verdict.closing result) }
         ensures kind { (kd : TableKind) → Good V.Verdict.reads None file.now kd → kind_of result ≡ kd }
+        ensures holds { (kd : TableKind) → Good V.Verdict.reads None file.now kd → holds result ≡ kd }
+        ensures refused { ((kd : TableKind) → Good V.Verdict.reads None file.now kd → ⊥) → kind_of result ≡ kinds.Dense }
     {
         match GoodFile::read::<V>(file, None) {
             Ok(good) => RuleFile::from(good),
@@ -34,20 +37,20 @@ impl<'a, V: Verdict> RuleFile<'a, V> {
         }
     }
 
-    /// The kind of the table; dense where `make` was given a file that is refused.
+    /// The file's kind; dense where the file was refused.
     pub fn kind(&self) -> Kind
         ensures { result ≡ kind_of self.now }
     {
         match self {
-            RuleFile::Dense(_) => Kind::Dense,
-            RuleFile::Edges(_) => Kind::Edges,
+            RuleFile::Edges(t) if t.is_made() => Kind::Edges,
+            _ => Kind::Dense,
         }
     }
 }
 
 /// A file that is known to be good has its automaton without being read through once more.
 impl<'a, V: Verdict> From<GoodFile<'a>> for RuleFile<'a, V> {
-    ghost from_gives = { λ good r. (kind_of r ≡ good.header.kind) × (file_meaning V.Verdict.reads V.Verdict.closing r ≡ good_meaning V.Verdict.reads V.Verdict.closing good) };
+    ghost from_gives = { IsOf V.Verdict.reads V.Verdict.closing };
 
     fn from(good: GoodFile<'a>) -> RuleFile<'a, V> {
         match good.header.kind {

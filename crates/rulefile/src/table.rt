@@ -10,7 +10,8 @@ use std::marker::PhantomData;
 #[derive(Drop)]
 pub struct FileTable<'a, T, V> {
     transitions: Option<T>,
-    says: PhantomData<&'a V>,
+    says: PhantomData<V>,
+    lent: PhantomData<&'a ()>,
 }
 
 impl<'a, T: Transitions<'a>, V: Verdict> FileTable<'a, T, V> {
@@ -34,6 +35,13 @@ impl<'a, T: Transitions<'a>, V: Verdict> FileTable<'a, T, V> {
         FileTable::new(transitions)
     }
 
+    // Whether it was made of a good file.
+    pub(crate) fn is_made(&self) -> bool
+        ensures { result ≡ is_made self.now }
+    {
+        self.transitions.is_some()
+    }
+
     // The automaton of those transitions, or the closed rule.
     pub(crate) fn new(transitions: Option<T>) -> FileTable<'a, T, V>
         ensures { result.transitions ≡ transitions }
@@ -41,6 +49,7 @@ impl<'a, T: Transitions<'a>, V: Verdict> FileTable<'a, T, V> {
         FileTable {
             transitions,
             says: PhantomData,
+            lent: PhantomData,
         }
     }
 }
