@@ -38,7 +38,11 @@ impl Verdict for YesNo {
         ensures value { result ≡ verdict_of_byte byte }
         ensures exact { is_some result ≡ nat_lt byte 2 }
     {
-        YesNo::try_from(byte).ok()
+        match byte {
+            0 => Some(YesNo::No),
+            1 => Some(YesNo::Yes),
+            _ => None,
+        }
     }
 }
 
@@ -48,11 +52,7 @@ impl TryFrom<u8> for YesNo {
     ghost try_from_gives = { Converts verdict_of_byte };
 
     fn try_from(byte: u8) -> Result<YesNo, UnknownNumber> {
-        match byte {
-            0 => Ok(YesNo::No),
-            1 => Ok(YesNo::Yes),
-            _ => Err(UnknownNumber(byte)),
-        }
+        YesNo::read(byte).ok_or(UnknownNumber(byte))
     }
 }
 
